@@ -1,0 +1,5 @@
+pub mod Cases
+pub mod Counts
+pub mod Stretches
+pub mod Nths
+pub mod Periods

@@ -1,0 +1,4 @@
+pub mod Count
+pub mod Periodic
+pub mod Gather
+pub mod Runs
