@@ -8,7 +8,7 @@ use native.Mathlib.Omega.{arith}
 use lib.Dec.{leb}
 use borrow.Author.Tests.{le-leb, lt-leb}
 use Rattle.counting.specs.Count.{bit, countBelow, countIn}
-use Rattle.counting.proofs.Cases.{byTest, lt-or-le}
+use Rattle.counting.proofs.Cases.{lt-or-le}
 
 -- ---- one step
 pub count-zero : (p : ℕ → Bool) → countBelow p 0 ≡ 0

@@ -3,3 +3,7 @@ pub mod Counts
 pub mod Stretches
 pub mod Nths
 pub mod Periods
+pub mod Runs
+pub mod RunCounts
+pub mod Gathers
+pub mod Scatters

@@ -1,15 +1,15 @@
 -- The number of rank y: there is one exactly when enough pass, and one only. Assumes nothing.
-use mathlib.Core.Path.{_≡_, refl, sym, ap, _∙_, subst}
-use mathlib.Core.Bool.{Bool, true, false, _&&_, not, and-false}
-use mathlib.Core.Logic.{_⊎_, _↔_, inl, inr, ⊎-elim}
-use Prim.Native.Nat.{ℕ, zero, suc, _+_, _≤_, _<_}
+use mathlib.Core.Path.{_≡_, refl, sym, subst}
+use mathlib.Core.Bool.{Bool, true, _&&_, not}
+use mathlib.Core.Logic.{_↔_, ⊎-elim}
+use Prim.Native.Nat.{ℕ, zero, suc, _≤_, _<_}
 use native.Mathlib.Nat.{zero-add}
 use native.Mathlib.Omega.{arith}
 use lib.Dec.{eqb}
 use borrow.Author.Tests.{eq-eqb, ne-eqb}
-use Rattle.counting.specs.Count.{countBelow, stretch, nth}
+use Rattle.counting.specs.Count.{countBelow, nth}
 use Rattle.counting.proofs.Cases.{byTest, lt-or-le}
-use Rattle.counting.proofs.Counts.{count-zero, count-here, count-skip, count-mono, count-past}
+use Rattle.counting.proofs.Counts.{count-zero, count-here, count-skip, count-past}
 use Rattle.counting.proofs.Stretches.{stretch-is}
 
 -- two numbers that pass and have one rank are one

@@ -1,13 +1,12 @@
 -- Counting by periods: whole ones, and the rest. Assumes nothing.
 use mathlib.Core.Path.{_≡_, refl, sym, ap, ap₂, _∙_}
-use mathlib.Core.Bool.{Bool, true, false, _&&_, not}
+use mathlib.Core.Bool.{Bool, false, _&&_, not}
 use Prim.Native.Nat.{ℕ, zero, suc, _+_, _-_, _*_, _/_, _%_, _≤_, _<_}
-use native.Mathlib.Nat.{add-zero, zero-add, zero-mul, suc-mul, suc-add, div-add-mod', mod-lt, add-sub-cancel-left, add-mod-right}
+use native.Mathlib.Nat.{zero-add, zero-mul, suc-mul, suc-add, div-add-mod', mod-lt, add-sub-cancel-left, add-mod-right}
 use native.Mathlib.Omega.{arith}
 use lib.Arith.{digits-mod}
-use lib.Dec.{leb}
 use borrow.Author.Tests.{le-leb, lt-leb}
-use Rattle.counting.specs.Count.{bit, countBelow, countIn}
+use Rattle.counting.specs.Count.{countBelow, countIn}
 use Rattle.counting.specs.Periodic.{owns, Periodic}
 use Rattle.counting.specs.Runs.{rises}
 use Rattle.counting.proofs.Counts.{count-zero, count-ext, count-split, count-window, count-none}

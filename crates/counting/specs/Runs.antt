@@ -45,12 +45,8 @@ unfoldable pub Spaced : (gap a e : ℕ) → List Run → Type 0
 Spaced gap a e [] = Unit {0}
 Spaced gap a e (r ∷ rs) = (a ≤ r .0) × (0 < r .1) × (r .0 + r .1 ≤ e) × Spaced gap (r .0 + r .1 + gap) e rs
 
--- all of the run of m numbers from s on passes, and inside the window from a to e it cannot be made longer
-pub record Maximal (p : ℕ → Bool) (a e s m : ℕ) : Type 0 where
-  pub all : (x : ℕ) → s ≤ x → x < s + m → p x ≡ true
-  pub first : a < s → p (s - 1) ≡ false
-  pub last : s + m < e → p (s + m) ≡ false
-
-unfoldable pub Each : (ℕ → ℕ → Type 0) → List Run → Type 0
-Each P [] = Unit {0}
-Each P (r ∷ rs) = P (r .0) (r .1) × Each P rs
+-- all of each run passes, and inside the window from a to e no run can be made longer
+unfoldable pub Maximal : (p : ℕ → Bool) (a e : ℕ) → List Run → Type 0
+Maximal p a e [] = Unit {0}
+Maximal p a e (r ∷ rs) =
+    ((x : ℕ) → r .0 ≤ x → x < r .0 + r .1 → p x ≡ true) × (a < r .0 → p (r .0 - 1) ≡ false) × (r .0 + r .1 < e → p (r .0 + r .1) ≡ false) × Maximal p a e rs

@@ -1,0 +1,78 @@
+-- Lists made of a window, number by number: all of them, and those that pass. Assumes nothing.
+use mathlib.Core.Path.{_≡_, refl, sym, ap, ap₂, _∙_}
+use mathlib.Core.Bool.{Bool, true}
+use mathlib.Core.List.{List, _∷_, _++_}
+use Prim.Native.Nat.{ℕ, zero, suc, _+_, _-_, _≤_, _<_}
+use native.Mathlib.Nat.{add-zero, zero-add, suc-add, add-sub-of-le, add-sub-cancel-left}
+use native.Mathlib.Omega.{arith}
+use lib.ListN.{length, getD}
+use lib.Seq.{ext-getD, getD-at}
+use Rattle.counting.specs.Count.{countIn}
+use Rattle.counting.specs.Gather.{tabulated, inFile, gathered}
+use Rattle.counting.proofs.Cases.{byTest}
+use Rattle.counting.proofs.Counts.{countIn-none, countIn-front}
+
+-- ---- all of the window
+module _ {A : Type 0} where
+  pub length-tabulated : (a n : ℕ) (f : ℕ → A) → length (tabulated a n f) ≡ n
+  unfolding tabulated
+  length-tabulated a zero f = refl
+  length-tabulated a (suc n) f = ap suc (length-tabulated (suc a) n f)
+
+  pub getD-tabulated : (a n : ℕ) (f : ℕ → A) (k : ℕ) (d : A) → k < n → getD (tabulated a n f) k d ≡ f (a + k)
+  unfolding tabulated
+  getD-tabulated a zero f k d h = absurd (omega arith)
+  getD-tabulated a (suc n) f zero d h = ap f (sym (add-zero a))
+  getD-tabulated a (suc n) f (suc k) d h = getD-tabulated (suc a) n f k d (omega arith) ∙ ap f (let e : suc a + k ≡ a + suc k = omega arith in e)
+
+  pub tabulated-ext : (a n : ℕ) (f g : ℕ → A) → ((x : ℕ) → a ≤ x → x < a + n → f x ≡ g x) → tabulated a n f ≡ tabulated a n g
+  unfolding tabulated
+  tabulated-ext a zero f g h = refl
+  tabulated-ext a (suc n) f g h =
+      ap₂ (λ (v : A) (l : List A). v ∷ l) (h a (omega arith) (omega arith)) (tabulated-ext (suc a) n f g (λ x u v. h x (omega arith) (omega arith)))
+
+-- a file buffer and the bytes it holds
+pub inFile-tabulated : (a n : ℕ) (f : ℕ → ℕ) (x : ℕ) → a ≤ x → x < a + n → inFile a (tabulated a n f) x ≡ f x
+inFile-tabulated a n f x h k = getD-tabulated a n f (x - a) 0 (omega arith) ∙ ap f (add-sub-of-le h)
+
+pub tabulated-whole : (a n : ℕ) (file : List ℕ) → length file ≡ n → tabulated a n (inFile a file) ≡ file
+tabulated-whole a n file e =
+    ext-getD 0 (tabulated a n (inFile a file)) file (length-tabulated a n _ ∙ sym e) (λ i h.
+    getD-tabulated a n (inFile a file) i 0 (omega (arith, length-tabulated a n (inFile a file))) ∙ ap (λ (j : ℕ). getD file j 0) (add-sub-cancel-left a i))
+
+-- ---- those that pass
+pub length-gathered : (p : ℕ → Bool) (a n : ℕ) (f : ℕ → ℕ) → length (gathered p a n f) ≡ countIn p a n
+unfolding gathered
+length-gathered p a zero f = sym (countIn-none p a)
+length-gathered p a (suc n) f =
+    rw (countIn-front p a n) (byTest (p a) (λ t. rw t (omega (arith, length-gathered p (suc a) n f))) (λ t. rw t (omega (arith, length-gathered p (suc a) n f))))
+
+pub gathered-ext : (p : ℕ → Bool) (a n : ℕ) (f g : ℕ → ℕ) → ((x : ℕ) → a ≤ x → x < a + n → p x ≡ true → f x ≡ g x) → gathered p a n f ≡ gathered p a n g
+unfolding gathered
+gathered-ext p a zero f g h = refl
+gathered-ext p a (suc n) f g h =
+    let ih : gathered p (suc a) n f ≡ gathered p (suc a) n g = gathered-ext p (suc a) n f g (λ x u v. h x (omega arith) (omega arith)) in
+    byTest (p a) (λ t. rw (t, ih, h a (omega arith) (omega arith) t)) (λ t. rw (t, ih))
+
+-- up to a + m, and then n more
+pub gathered-split : (p : ℕ → Bool) (a m n : ℕ) (f : ℕ → ℕ) → gathered p a (m + n) f ≡ gathered p a m f ++ gathered p (a + m) n f
+unfolding gathered
+gathered-split p a zero n f = rw (zero-add n, add-zero a)
+gathered-split p a (suc m) n f =
+    let ih : gathered p (suc a) (m + n) f ≡ gathered p (suc a) m f ++ gathered p (a + suc m) n f =
+    gathered-split p (suc a) m n f ∙ ap (λ (z : ℕ). gathered p (suc a) m f ++ gathered p z n f) (omega arith) in
+    byTest (p a) (λ t. rw (suc-add m n, t, ih)) (λ t. rw (suc-add m n, t, ih))
+
+gathered-here : (p : ℕ → Bool) (a n : ℕ) (f : ℕ → ℕ) → p a ≡ true → gathered p a (suc n) f ≡ f a ∷ gathered p (suc a) n f
+unfolding gathered
+gathered-here p a n f e = rw e
+
+-- WHERE x STANDS among them: after as many as pass before it
+pub getD-gathered : (p : ℕ → Bool) (a n : ℕ) (f : ℕ → ℕ) (x : ℕ) → a ≤ x → x < a + n → p x ≡ true → getD (gathered p a n f) (countIn p a (x - a)) 0 ≡ f x
+getD-gathered p a n f x h l e =
+    let k = a + n - suc x in
+    let parts : gathered p a n f ≡ gathered p a (x - a) f ++ f x ∷ gathered p (suc x) k f =
+    ap (λ (z : ℕ). gathered p a z f) (let z : n ≡ x - a + suc k = omega arith in z)
+    ∙ gathered-split p a (x - a) (suc k) f
+    ∙ rw (add-sub-of-le h) (ap (λ (l : List ℕ). gathered p a (x - a) f ++ l) (gathered-here p x k f e)) in
+    rw parts (getD-at (gathered p a (x - a) f) (f x) (gathered p (suc x) k f) 0 (countIn p a (x - a)) (length-gathered p a (x - a) f))

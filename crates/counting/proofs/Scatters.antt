@@ -1,0 +1,60 @@
+-- Putting packed bytes back, and how that and gathering undo one another. Assumes nothing.
+use mathlib.Core.Path.{_≡_, refl, sym, ap, _∙_, subst}
+use mathlib.Core.Bool.{Bool, true, false, _&&_, cond, true≢false}
+use mathlib.Core.List.{List}
+use Prim.Native.Nat.{ℕ, _+_, _-_, _≤_, _<_}
+use native.Mathlib.Nat.{add-sub-cancel-left}
+use native.Mathlib.Omega.{arith}
+use lib.ListN.{length, getD}
+use lib.Seq.{ext-getD}
+use Rattle.counting.specs.Count.{countIn}
+use Rattle.counting.specs.Gather.{inFile, gathered, scattered}
+use Rattle.counting.proofs.Cases.{byTest}
+use Rattle.counting.proofs.Nths.{rank-onto}
+use Rattle.counting.proofs.Gathers.{length-tabulated, tabulated-ext, inFile-tabulated, tabulated-whole, length-gathered, gathered-ext, getD-gathered}
+
+module _ (p : ℕ → Bool) (a n : ℕ) where
+  pub length-scattered : (packed file : List ℕ) → length (scattered p a n packed file) ≡ n
+  unfolding scattered
+  length-scattered packed file = length-tabulated a n _
+
+  -- the byte of x after a scatter
+  pub scattered-at : (packed file : List ℕ) (x : ℕ) → a ≤ x → x < a + n → inFile a (scattered p a n packed file) x ≡ cond (p x) (getD packed (countIn p a (x - a)) 0) (inFile a file x)
+  unfolding scattered
+  scattered-at packed file x h k = inFile-tabulated a n _ x h k
+
+  -- scattering what was just gathered changes nothing
+  pub scatter-gather : (file : List ℕ) → length file ≡ n → scattered p a n (gathered p a n (inFile a file)) file ≡ file
+  unfolding scattered
+  scatter-gather file e =
+      tabulated-ext a n _ _ (λ x h k. byTest (p x) (λ t. rw t (getD-gathered p a n (inFile a file) x h k t)) (λ t. rw t)) ∙ tabulated-whole a n file e
+
+  -- gathering what was just scattered gives the packed bytes back
+  pub gather-scatter : (packed file : List ℕ) → length packed ≡ countIn p a n → gathered p a n (inFile a (scattered p a n packed file)) ≡ packed
+  unfolding countIn
+  gather-scatter packed file e =
+      let f : ℕ → ℕ = λ x. getD packed (countIn p a (x - a)) 0 in
+      gathered-ext p a n _ f (λ x h k t. scattered-at packed file x h k ∙ rw t)
+      ∙ ext-getD 0 (gathered p a n f) packed (length-gathered p a n f ∙ sym e) (λ i h.
+      let r = rank-onto (λ y. p (a + y)) n i (rw (length-gathered p a n f) at h) in
+      let y = r .0 in
+      subst (λ (j : ℕ). getD (gathered p a n f) j 0 ≡ getD packed j 0) (ap (countIn p a) (add-sub-cancel-left a y) ∙ r .3)
+      (getD-gathered p a n f (a + y) (omega arith) (omega (arith, r .1)) (r .2)))
+
+  -- of two scatters to the same test the later alone counts
+  pub scatter-scatter : (packed packed′ file : List ℕ) → scattered p a n packed′ (scattered p a n packed file) ≡ scattered p a n packed′ file
+  unfolding scattered
+  scatter-scatter packed packed′ file = tabulated-ext a n _ _ (λ x h k. byTest (p x) (λ t. rw t) (λ t. rw t (scattered-at packed file x h k ∙ rw t)))
+
+-- scatters to two tests that never both pass go in either order
+pub scatter-comm : (p q : ℕ → Bool) (a n : ℕ) (u v file : List ℕ) → ((x : ℕ) → a ≤ x → x < a + n → (p x && q x) ≡ false)
+    → scattered p a n u (scattered q a n v file) ≡ scattered q a n v (scattered p a n u file)
+unfolding scattered
+scatter-comm p q a n u v file apart =
+    tabulated-ext a n _ _ (λ x h k.
+    ap (cond (p x) _) (scattered-at q a n v file x h k) ∙ swap (p x) (q x) _ _ _ (apart x h k) ∙ sym (ap (cond (q x) _) (scattered-at p a n u file x h k)))
+  where
+    swap : (s t : Bool) (b c d : ℕ) → (s && t) ≡ false → cond s b (cond t c d) ≡ cond t c (cond s b d)
+    swap true true b c d h = absurd (true≢false h)
+    swap true false b c d h = refl
+    swap false t b c d h = refl

@@ -1,0 +1,11 @@
+pub mod Division
+pub mod Forests
+pub mod OneFamily
+pub mod Steps
+pub mod Loops
+pub mod Filling
+pub mod Rows
+pub mod Marks
+pub mod Turns
+pub mod Owning
+pub mod Figures

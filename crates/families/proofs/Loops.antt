@@ -1,0 +1,150 @@
+-- One turn of the loops over siblings: membership, size, rank and inverse by the family at hand, its children and the rest.
+-- Assumes nothing.
+use mathlib.Core.Path.{_≡_, refl, sym, ap, ap₂, _∙_, subst}
+use mathlib.Core.Bool.{Bool, true, false, _&&_, _||_, or-false, and-true, true≢false}
+use mathlib.Core.List.{List}
+use mathlib.Core.Logic.{inl, inr, ⊎-elim}
+use Prim.Native.Nat.{ℕ, _+_, _-_, _*_, _/_, _%_, _≤_, _<_, _^_}
+use native.Mathlib.Nat.{div-lt-iff-lt-mul, le-mul-of-pos-right, mod-lt}
+use native.Mathlib.Omega.{arith}
+use lib.ListN.{length}
+use Rattle.counting.specs.Count.{countBelow, nth}
+use Rattle.counting.proofs.Cases.{lt-or-le}
+use Rattle.counting.proofs.Counts.{count-ext, count-none, count-le}
+use Rattle.counting.proofs.Nths.{Found, nth-is, nth-found}
+use Rattle.families.specs.declared.Family.{Family}
+use Rattle.families.specs.Forest.{Forest, has, inner, lastByte, endOf, sizeOf, Stride, WF, Sound}
+use Rattle.families.specs.Decoded.{forestAt, familyAt, segmentsOf, leafOf}
+use Rattle.families.proofs.Division.{segments-div, leaf-div, segments-after, segments-count, whole, part}
+use Rattle.families.proofs.Forests.{inner-leaf, inner-kids, each-leaf, part-kids, each-kids, rest-none, rank-node, size-node, end-le, positive, nth-here, nth-later}
+use Rattle.families.proofs.Steps.{kidsOf, restOf, Step, step, none-left, leaf, branch, held}
+
+-- the family f stands at `at`, with `left` families left that are sound
+abbrev pub Here : (levels : ℕ) (look : ℕ → Family) (at left : ℕ) → Family → Type 0
+Here levels look at left f = Step levels look at left (2 ^ 32 - 1) f
+
+pub here : (levels : ℕ) (look : ℕ → Family) (at left : ℕ) (f : Family) → 0 < left → Sound (forestAt levels look at left) → f ≡ look at → Here levels look at left f
+here levels look at left f h w e = step levels look at left (2 ^ 32 - 1) f h w e
+
+-- it stands whole in the row, so its index is far from wrapping
+pub held-here : (levels : ℕ) (row : List ℕ) (at left : ℕ) → 0 < left → Sound (forestAt levels (familyAt row) at left) → 6 * at + 5 < length row
+held-here levels row at left h w = held row at (2 ^ 32 - 1) (here levels (familyAt row) at left (familyAt row at) h w refl .fits)
+
+module _ (levels : ℕ) (look : ℕ → Family) (at left : ℕ) (f : Family) (H : Here levels look at left f) where
+  -- ---- membership
+  has-step : (x : ℕ) → has (forestAt levels look at left) x ≡ (segmentsOf f (inner (kidsOf levels look at f)) x || has (restOf levels look at left f) x)
+  unfolding has
+  has-step x = ap (λ (G : Forest). has G x) (H .is)
+
+  in-segments : (x : ℕ) → segmentsOf f (inner (kidsOf levels look at f)) x ≡ (leafOf f x && inner (kidsOf levels look at f) ((x - f .l) % f .s))
+  in-segments x =
+      segments-div (inner (kidsOf levels look at f)) (f .l) (f .r) (f .s) (f .n) x (H .fits .stride)
+      ∙ ap (λ (b : Bool). b && inner (kidsOf levels look at f) ((x - f .l) % f .s)) (sym (leaf-div (f .l) (f .r) (f .s) (f .n) x (H .fits .stride)))
+
+  -- x lies in a segment, so no younger sibling has it
+  rest-apart : (x : ℕ) → leafOf f x ≡ true → has (restOf levels look at left f) x ≡ false
+  rest-apart x e =
+      rest-none 0 (2 ^ 32 - 1) (f .l) (f .r) (f .s) (f .n) (kidsOf levels look at f) (restOf levels look at left f) (H .ok) x
+      (⊎-elim (λ h. absurd (true≢false (sym e ∙ segments-after (λ _. true) (f .l) (f .r) (f .s) (f .n) x h))) (λ h. h) (lt-or-le (lastByte (f .l) (f .r) (f .s) (f .n)) x))
+
+  inside : (x : ℕ) → leafOf f x ≡ true → has (forestAt levels look at left) x ≡ inner (kidsOf levels look at f) ((x - f .l) % f .s)
+  inside x e = has-step x ∙ rw (rest-apart x e, in-segments x, e) (or-false _)
+
+  pub has-leaf : (x : ℕ) (a : Bool) → a ≡ leafOf f x → a ≡ true → f .children ≡ 0 → has (forestAt levels look at left) x ≡ true
+  has-leaf x a i t e = inside x (sym i ∙ t) ∙ inner-leaf (kidsOf levels look at f) (leaf (levels - 1) look (at + 1) _ e) _
+
+  pub has-kids : (x : ℕ) (a : Bool) → a ≡ leafOf f x → a ≡ true → (f .children ≡ 0 → ⊥) → (w : ℕ) → w ≡ (x - f .l) % f .s
+      → has (forestAt levels look at left) x ≡ has (kidsOf levels look at f) w
+  has-kids x a i t e w v = inside x (sym i ∙ t) ∙ inner-kids (kidsOf levels look at f) (branch (levels - 1) look (at + 1) _ e) _ ∙ ap (has (kidsOf levels look at f)) (sym v)
+
+  pub has-rest : (x : ℕ) (a : Bool) → a ≡ leafOf f x → a ≡ false → has (forestAt levels look at left) x ≡ has (restOf levels look at left f) x
+  has-rest x a i t = has-step x ∙ rw (in-segments x, ← i, t) refl
+
+  -- ---- size: `each` is what one segment selects
+  pub leaf-each : (each : ℕ) → f .children ≡ 0 → each ≡ (f .r - f .l + 1) → each ≡ countBelow (inner (kidsOf levels look at f)) (f .r - f .l + 1)
+  leaf-each each e h = h ∙ sym (each-leaf (kidsOf levels look at f) (f .r - f .l + 1) (leaf (levels - 1) look (at + 1) _ e))
+
+  pub kids-each : (each : ℕ) → (f .children ≡ 0 → ⊥) → each ≡ sizeOf (kidsOf levels look at f) → each ≡ countBelow (inner (kidsOf levels look at f)) (f .r - f .l + 1)
+  kids-each each e h = h ∙ sym (each-kids (f .r - f .l) (kidsOf levels look at f) (H .kids-ok) (branch (levels - 1) look (at + 1) _ e))
+
+  pub each-le : (each : ℕ) → each ≡ countBelow (inner (kidsOf levels look at f)) (f .r - f .l + 1) → each ≤ (f .r - f .l + 1)
+  each-le each h = omega (arith, count-le (inner (kidsOf levels look at f)) (f .r - f .l + 1))
+
+  pub size-step : (each : ℕ) → each ≡ countBelow (inner (kidsOf levels look at f)) (f .r - f .l + 1) → sizeOf (forestAt levels look at left) ≡ f .n * each + sizeOf (restOf levels look at left f)
+  size-step each h =
+      ap sizeOf (H .is)
+      ∙ size-node 0 (2 ^ 32 - 1) (f .l) (f .r) (f .s) (f .n) (kidsOf levels look at f) (restOf levels look at left f) (H .ok)
+      ∙ ap (λ (e : ℕ). f .n * e + sizeOf (restOf levels look at left f)) (sym h)
+
+  -- ---- rank: `v` is what the family counts below x
+  pub leaf-counts : (x v : ℕ) → f .children ≡ 0 → v ≡ countBelow (leafOf f) x → v ≡ countBelow (segmentsOf f (inner (kidsOf levels look at f))) x
+  leaf-counts x v e h =
+      h ∙ count-ext _ _ x (λ y _. sym (in-segments y ∙ rw (inner-leaf (kidsOf levels look at f) (leaf (levels - 1) look (at + 1) _ e) ((y - f .l) % f .s)) (and-true (leafOf f y))))
+
+  pub kids-count : (x each some d : ℕ) → (f .children ≡ 0 → ⊥) → each ≡ sizeOf (kidsOf levels look at f) → d ≡ part (f .l) (f .r) (f .s) (f .n) x → some ≡ countBelow (has (kidsOf levels look at f)) d
+      → whole (f .l) (f .s) (f .n) x * each + some ≡ countBelow (segmentsOf f (inner (kidsOf levels look at f))) x
+  kids-count x each some d e h g k =
+      sym (segments-count (inner (kidsOf levels look at f)) (f .l) (f .r) (f .s) (f .n) x (H .fits .stride)
+      ∙ ap₂ (λ (a b : ℕ). whole (f .l) (f .s) (f .n) x * a + b) (sym (kids-each each e h))
+      (part-kids (kidsOf levels look at f) (part (f .l) (f .r) (f .s) (f .n) x) (branch (levels - 1) look (at + 1) _ e) ∙ ap (countBelow (has (kidsOf levels look at f))) (sym g) ∙ sym k))
+
+  pub rank-step : (x v : ℕ) → v ≡ countBelow (segmentsOf f (inner (kidsOf levels look at f))) x → countBelow (has (forestAt levels look at left)) x ≡ v + countBelow (has (restOf levels look at left f)) x
+  rank-step x v h =
+      ap (λ (G : Forest). countBelow (has G) x) (H .is)
+      ∙ rank-node 0 (2 ^ 32 - 1) (f .l) (f .r) (f .s) (f .n) (kidsOf levels look at f) (restOf levels look at left f) (H .ok) x
+      ∙ ap (λ (c : ℕ). c + countBelow (has (restOf levels look at left f)) x) (sym h)
+
+  -- ---- inverse: `v` is the place inside a segment
+  pub nth-leaf : (y : ℕ) → f .children ≡ 0 → y < (f .r - f .l + 1) → y ≡ nth (inner (kidsOf levels look at f)) (f .r - f .l + 1) y
+  nth-leaf y e h =
+      let nil-kids = leaf (levels - 1) look (at + 1) _ e in
+      sym (nth-is _ (f .r - f .l + 1) y y h (inner-leaf (kidsOf levels look at f) nil-kids y) (each-leaf (kidsOf levels look at f) y nil-kids))
+
+  pub nth-kids : (y v : ℕ) → (f .children ≡ 0 → ⊥) → y < sizeOf (kidsOf levels look at f) → v ≡ nth (has (kidsOf levels look at f)) (endOf (kidsOf levels look at f)) y
+      → v ≡ nth (inner (kidsOf levels look at f)) (f .r - f .l + 1) y
+  unfolding sizeOf
+  nth-kids y v e h g =
+      let K = kidsOf levels look at f in
+      let some-kids = branch (levels - 1) look (at + 1) _ e in
+      let N : Found (has K) (endOf K) y v = subst (Found (has K) (endOf K) y) (sym g) (nth-found (has K) (endOf K) y h) in
+      sym (nth-is _ (f .r - f .l + 1) v y (omega (arith, N .below, end-le 0 (f .r - f .l) K (H .kids-ok))) (inner-kids K some-kids v ∙ N .passes) (part-kids K v some-kids ∙ N .rank))
+
+  module _ (each y : ℕ) (h : each ≡ countBelow (inner (kidsOf levels look at f)) (f .r - f .l + 1)) where
+    pub nth-in : (v : ℕ) → y < f .n * each → v ≡ nth (inner (kidsOf levels look at f)) (f .r - f .l + 1) (y % each)
+        → f .l + y / each * f .s + v ≡ nth (has (forestAt levels look at left)) (endOf (forestAt levels look at left)) y
+    nth-in v g k = rw (H .is, k, h) (sym (nth-here 0 (2 ^ 32 - 1) (f .l) (f .r) (f .s) (f .n) (kidsOf levels look at f) (restOf levels look at left f) (H .ok) y (rw h at g)))
+
+    pub nth-rest : f .n * each ≤ y → y < sizeOf (forestAt levels look at left)
+        → nth (has (forestAt levels look at left)) (endOf (forestAt levels look at left)) y ≡ nth (has (restOf levels look at left f)) (endOf (restOf levels look at left f)) (y - f .n * each)
+    nth-rest g k = rw (H .is, h) (nth-later 0 (2 ^ 32 - 1) (f .l) (f .r) (f .s) (f .n) (kidsOf levels look at f) (restOf levels look at left f) (H .ok) y (rw h at g) (rw (H .is) at k))
+
+    -- what the divisions of y give
+    pub digit-lt : y < f .n * each → y / each < f .n
+    digit-lt g = div-lt-iff-lt-mul (positive (f .n) each y g) .1 g
+
+    pub digit-fits : y < f .n * each → y / each < 2 ^ 32
+    digit-fits g = omega (arith, digit-lt g, few (H .fits .stride))
+      where
+        few : Stride (f .l) (f .r) (f .s) (f .n) → f .n ≤ 2 ^ 32
+        few (inl e) = omega arith
+        few (inr e) = omega (arith, le-mul-of-pos-right {m = f .s} (f .n - 1) (omega arith), H .fits .inside)
+
+    pub place-lt : y < f .n * each → y % each < each
+    place-lt g = mod-lt y (positive (f .n) each y g)
+
+-- the y-th offset is below the bound
+pub nth-le : (F : Forest) (b y : ℕ) → WF 0 b F → y < sizeOf F → nth (has F) (endOf F) y ≤ b
+unfolding sizeOf
+nth-le F b y w h = omega (arith, nth-found (has F) (endOf F) y h .below, end-le 0 b F w)
+
+-- ---- nothing is left
+pub has-none : (levels : ℕ) (look : ℕ → Family) (at left x : ℕ) → left ≡ 0 → has (forestAt levels look at left) x ≡ false
+unfolding has
+has-none levels look at left x e = rw (none-left levels look at left e) refl
+
+pub size-none : (levels : ℕ) (look : ℕ → Family) (at left : ℕ) → left ≡ 0 → sizeOf (forestAt levels look at left) ≡ 0
+unfolding sizeOf endOf countBelow
+size-none levels look at left e = rw (none-left levels look at left e) refl
+
+pub rank-none : (levels : ℕ) (look : ℕ → Family) (at left x : ℕ) → left ≡ 0 → countBelow (has (forestAt levels look at left)) x ≡ 0
+rank-none levels look at left x e = count-none _ x (λ y _. has-none levels look at left y e)

@@ -1,0 +1,27 @@
+-- `in_segments` meets its contract. Assumes nothing.
+use Rattle.families.proofs.OneFamily.{in-before, in-beyond, in-within}
+use borrow.Author.Needs.{needs}
+use Rattle.families.proofs.segments.in_segments.Statement.{statement}
+use Rattle.families.proofs.segments.in_segments.Tie as tie
+
+returns : tie.Need-returns
+returns c = in-before _ _ _ _ _ (c .before .pre) (c .if1 .taken)
+
+over-requires : tie.Need-over-requires
+over-requires c κs = search needs
+
+returns-2 : tie.Need-returns-2
+returns-2 c = in-beyond _ _ _ _ _ (c .before .before .before .pre) _ (c .before .before .if1 .left) (c .if2 .taken) (c .before .over .ensures)
+
+rest-requires : tie.Need-rest-requires
+rest-requires c κs = search needs
+
+past-requires : tie.Need-past-requires
+past-requires c κs = search needs
+
+returns-3 : tie.Need-returns-3
+returns-3 c = in-within _ _ _ _ _ (c .before .before .before .before .before .pre) _ _ _ (c .before .before .before .before .if1 .left) (c .before .before .if2 .left) (c .before .before .before .over .ensures) (c .before .rest .ensures) (c .past .ensures)
+
+pub in-segments-spec : {M : Type 1} → statement M
+in-segments-spec =
+    tie.close (tie.spec returns over-requires returns-2 rest-requires past-requires returns-3)

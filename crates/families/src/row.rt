@@ -1,0 +1,51 @@
+// The families' numbers in one row, six a family, so that they can be lent and no call copies them.
+ghost use mathlib.Core.Path.{_≡_};
+ghost use Prim.Native.Nat.{_+_, _*_, _^_, _<_};
+ghost use lib.ListN.{length};
+ghost use Rattle.families.specs.Decoded.{familyAt, rowOf};
+use crate::Family;
+use crate::Layout;
+
+// Lays a layout's families out in a row.
+pub fn lay_out(layout: Layout, numbers: &mut [u32])
+    requires { ⌜ length (now numbers) ≡ 1536 ⌝ }
+    ensures { λ _. ⌜ now (numbers .exit) ≡ rowOf (layout .family) ⌝ }
+{
+    let mut i: usize = 0;
+    while i < 256 {
+        let f = layout.family[i];
+        let b = 6 * i;
+        numbers[b] = f.children;
+        numbers[b + 1] = f.span;
+        numbers[b + 2] = f.l;
+        numbers[b + 3] = f.r;
+        numbers[b + 4] = f.s;
+        numbers[b + 5] = f.n;
+        i += 1;
+    }
+}
+
+// The family at an index of the row.
+pub fn family_at(numbers: &[u32], at: usize) -> Family
+    requires { ⌜ 6 * at + 5 < length (now numbers) ⌝ }
+    ensures { λ r. ⌜ r ≡ familyAt (now (numbers .entry)) at ⌝ }
+{
+    let b = 6 * at;
+    Family {
+        l: numbers[b + 2],
+        r: numbers[b + 3],
+        s: numbers[b + 4],
+        n: numbers[b + 5],
+        children: numbers[b],
+        span: numbers[b + 1],
+    }
+}
+
+// Where the sibling after f stands, f standing at `at`.
+pub fn next(f: Family, at: usize) -> usize
+    requires { ⌜ at < 2 ^ 62 ⌝ }
+    ensures { λ r. ⌜ r ≡ at + f .span ⌝ }
+{
+    let span = f.span;
+    at + span as usize
+}

@@ -1,0 +1,140 @@
+// One family by itself: its segments, by division.
+ghost use mathlib.Core.Path.{_≡_};
+ghost use mathlib.Core.Bool.{cond};
+ghost use Prim.Native.Nat.{_+_, _-_, _*_, _/_, _%_, _^_, _<_, min};
+ghost use lib.Dec.{ltb};
+ghost use Rattle.counting.specs.Count.{countBelow};
+ghost use Rattle.families.specs.Forest.{Stride};
+ghost use Rattle.families.specs.Decoded.{leafOf, FitsIn};
+use crate::Family;
+
+// a / s, and 0 where s is 0
+pub fn over(a: u32, s: u32) -> u32
+    ensures { λ r. ⌜ r ≡ a / s ⌝ }
+{
+    if s == 0 {
+        return 0;
+    }
+    a / s
+}
+
+// a % s, and a where s is 0
+pub fn rest(a: u32, s: u32) -> u32
+    ensures { λ r. ⌜ r ≡ a % s ⌝ }
+{
+    if s == 0 {
+        return a;
+    }
+    a % s
+}
+
+// x - l, and 0 where l is past x
+pub fn past(x: u32, l: u32) -> u32
+    ensures { λ r. ⌜ r ≡ x - l ⌝ }
+{
+    if x < l {
+        return 0;
+    }
+    x - l
+}
+
+pub fn wide(x: u32) -> u64
+    ensures { λ r. ⌜ r ≡ x ⌝ }
+{
+    x as u64
+}
+
+// How many bytes a segment of f has.
+pub fn segment_len(f: Family) -> u64
+    ensures { λ r. ⌜ r ≡ f .r - f .l + 1 ⌝ }
+{
+    let l = f.l;
+    let r = f.r;
+    wide(past(r, l)) + 1
+}
+
+// Where in its segment x lies, where it lies in one.
+pub fn place(f: Family, x: u32) -> u32
+    ensures { λ r. ⌜ r ≡ (x - f .l) % f .s ⌝ }
+{
+    let l = f.l;
+    let s = f.s;
+    rest(past(x, l), s)
+}
+
+// Whether x lies in a segment of f, whatever f's children select there.
+pub fn in_segments(f: Family, x: u32) -> bool
+    requires { ⌜ Stride (f .l) (f .r) (f .s) (f .n) ⌝ }
+    ensures { λ r. ⌜ r ≡ leafOf f x ⌝ }
+{
+    let l = f.l;
+    let r = f.r;
+    let s = f.s;
+    let n = f.n;
+    if x < l {
+        return false;
+    }
+    if n <= over(x - l, s) {
+        return false;
+    }
+    rest(x - l, s) <= past(r, l)
+}
+
+// How many whole segments of f lie before x.
+pub fn whole_before(f: Family, x: u32) -> u32
+    ensures { λ r. ⌜ r ≡ min ((x - f .l) / f .s) (f .n) ⌝ }
+{
+    let l = f.l;
+    let s = f.s;
+    let n = f.n;
+    let q = over(past(x, l), s);
+    if q < n {
+        return q;
+    }
+    n
+}
+
+// How many bytes of the segment after those lie before x.
+pub fn part_before(f: Family, x: u32) -> u32
+    ensures { λ r. ⌜ r ≡ cond (ltb ((x - f .l) / f .s) (f .n)) (min ((x - f .l) % f .s) (f .r - f .l + 1)) 0 ⌝ }
+{
+    let l = f.l;
+    let r = f.r;
+    let s = f.s;
+    let n = f.n;
+    let a = past(x, l);
+    if n <= over(a, s) {
+        return 0;
+    }
+    let w = rest(a, s);
+    let last = past(r, l);
+    if last < w {
+        return last + 1;
+    }
+    w
+}
+
+// `each` for every whole segment of f before x, and `part` for the one after them.
+pub fn segments_rank(f: Family, x: u32, each: u64, part: u64) -> u64
+    requires { ⌜ min ((x - f .l) / f .s) (f .n) * each + part < 2 ^ 64 ⌝ }
+    ensures { λ r. ⌜ r ≡ min ((x - f .l) / f .s) (f .n) * each + part ⌝ }
+{
+    wide(whole_before(f, x)) * each + part
+}
+
+// How many bytes below x a family without children selects.
+pub fn leaf_rank(f: Family, x: u32) -> u64
+    requires { ⌜ FitsIn (2 ^ 32 - 1) f ⌝ }
+    ensures { λ r. ⌜ r ≡ countBelow (leafOf f) x ⌝ }
+{
+    segments_rank(f, x, segment_len(f), wide(part_before(f, x)))
+}
+
+// `each` for every segment of f.
+pub fn segments_size(f: Family, each: u64) -> u64
+    requires { ⌜ f .n * each < 2 ^ 64 ⌝ }
+    ensures { λ r. ⌜ r ≡ f .n * each ⌝ }
+{
+    let n = f.n;
+    wide(n) * each
+}
