@@ -20,12 +20,9 @@ leafOf f x = segmentsOf f (λ _. true) x
 abbrev pub FitsIn : (bound : ℕ) → Family → Type 0
 FitsIn bound f = Fits 0 bound (f .l) (f .r) (f .s) (f .n)
 
--- past an array's end stands no family: one with no segment, which no sheet rule admits
-abbrev pub noFamily : Family
-noFamily = record { l = 0; r = 0; s = 0; n = 0; children = 0; span = 0 }
-
+-- family i of an array; past its end a family with no segment, which no sheet rule admits
 abbrev pub familyIn : List Family → ℕ → Family
-familyIn families i = getD families i noFamily
+familyIn families i = getD families i (record { l = 0; r = 0; s = 0; n = 0; children = 0; span = 0 })
 
 -- k siblings, the first at i: a family's children follow it at once, and its next sibling stands `span` further on.
 -- `look` finds a family by its index, and `below` gives the children

@@ -9,7 +9,6 @@ mod siblings;
 
 pub use painting::owners;
 pub use row::lay_out;
-pub use segments::leaf_rank;
 pub use siblings::inverse;
 pub use siblings::rank;
 pub use siblings::selects;

@@ -135,6 +135,6 @@ pub fn segments_size(f: Family, each: u64) -> u64
     requires { ⌜ f .n * each < 2 ^ 64 ⌝ }
     ensures { λ r. ⌜ r ≡ f .n * each ⌝ }
 {
-    let n = f.n;
-    wide(n) * each
+    let count = f.n;
+    wide(count) * each
 }
