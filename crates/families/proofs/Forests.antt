@@ -156,8 +156,10 @@ module _ (a b l r s n : ℕ) (kids rest : Forest) (w : WF a b (node l r s n kids
 -- ---- families select something: each has a segment, and a segment with children has what they select
 pub size-some : (a b l r s n : ℕ) (kids rest : Forest) → WF a b (node l r s n kids rest) → 1 ≤ sizeOf (node l r s n kids rest)
 size-some a b l r s n nil rest w =
-    omega (arith, size-node a b l r s n nil rest w, each-leaf nil (r - l + 1) refl, one-le-mul {a = n} {b = countBelow (inner nil) (r - l + 1)} (ruled w .fits .some) (omega (arith, each-leaf nil (r - l + 1) refl)))
+    let each = each-leaf nil (r - l + 1) refl in
+    omega (arith, size-node a b l r s n nil rest w, one-le-mul {a = n} {b = countBelow (inner nil) (r - l + 1)} (ruled w .fits .some) (omega (arith, each)))
 size-some a b l r s n (node l₂ r₂ s₂ n₂ kids₂ rest₂) rest w =
     let kids = node l₂ r₂ s₂ n₂ kids₂ rest₂ in
     let some-kids = size-some 0 (r - l) l₂ r₂ s₂ n₂ kids₂ rest₂ (ruled w .kids-ok) in
-    omega (arith, size-node a b l r s n kids rest w, one-le-mul {a = n} {b = countBelow (inner kids) (r - l + 1)} (ruled w .fits .some) (omega (arith, each-kids (r - l) kids (ruled w .kids-ok) refl)))
+    let each = each-kids (r - l) kids (ruled w .kids-ok) refl in
+    omega (arith, size-node a b l r s n kids rest w, one-le-mul {a = n} {b = countBelow (inner kids) (r - l + 1)} (ruled w .fits .some) (omega (arith, each)))

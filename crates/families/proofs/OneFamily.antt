@@ -58,8 +58,8 @@ pub rank-is : (v w m each part : ℕ) → v ≡ w → w ≡ m → v * each + par
 rank-is v w m each part e f = ap (λ (z : ℕ). z * each + part) (e ∙ f)
 
 -- `leaf_rank`: without children every byte of a segment counts
-pub leaf-rank-is : (l r s n x each first here : ℕ) → Stride l r s n → each ≡ r - l + 1 → here ≡ first → first ≡ part l r s n x
-    → whole l s n x * each + here ≡ countBelow (inSegments (λ _. true) l r s n) x
-leaf-rank-is l r s n x each first here st e f g =
+pub leaf-rank-is : (l r s n x each v w : ℕ) → Stride l r s n → each ≡ r - l + 1 → w ≡ v → v ≡ part l r s n x
+    → whole l s n x * each + w ≡ countBelow (inSegments (λ _. true) l r s n) x
+leaf-rank-is l r s n x each v w st e f g =
     sym (segments-count (λ _. true) l r s n x st
     ∙ ap₂ (λ (c d : ℕ). whole l s n x * c + d) (count-all _ _ (λ _ _. refl) ∙ sym e) (count-all _ _ (λ _ _. refl) ∙ sym (f ∙ g)))

@@ -38,6 +38,7 @@ pub fn past(x: u32, l: u32) -> u32
     x - l
 }
 
+// x in 64 bits.
 pub fn wide(x: u32) -> u64
     ensures { λ r. ⌜ r ≡ x ⌝ }
 {

@@ -19,6 +19,7 @@ pub fn selects(numbers: &[u32], first: usize, count: u32, levels: u32, x: u32) -
     while 0 < left {
         let f = row::family_at(numbers, at);
         if segments::in_segments(f, x) {
+            // no younger sibling has x: each starts after this family's last byte
             let children = f.children;
             if children == 0 {
                 return true;
@@ -112,5 +113,6 @@ pub fn inverse(numbers: &[u32], first: usize, count: u32, levels: u32, y: u64) -
         at = row::next(f, at);
         left -= 1;
     }
+    // never reached: y is below the size
     0
 }

@@ -20,7 +20,9 @@ past-requires : tie.Need-past-requires
 past-requires c κs = search needs
 
 returns-3 : tie.Need-returns-3
-returns-3 c = in-within _ _ _ _ _ (c .before .before .before .before .before .pre) _ _ _ (c .before .before .before .before .if1 .left) (c .before .before .if2 .left) (c .before .before .before .over .ensures) (c .before .rest .ensures) (c .past .ensures)
+returns-3 c =
+    let d = c .before .before in
+    in-within _ _ _ _ _ (d .before .before .before .pre) _ _ _ (d .before .before .if1 .left) (d .if2 .left) (d .before .over .ensures) (c .before .rest .ensures) (c .past .ensures)
 
 pub in-segments-spec : {M : Type 1} → statement M
 in-segments-spec =

@@ -1,6 +1,6 @@
 -- `leaf_rank` meets its contract. Assumes nothing.
-use native.Mathlib.Omega.{arith}
 use mathlib.Core.Path.{_∙_}
+use native.Mathlib.Omega.{arith}
 use Rattle.counting.proofs.Counts.{count-le}
 use Rattle.families.specs.Decoded.{leafOf}
 use Rattle.families.proofs.OneFamily.{leaf-rank-is}
@@ -18,15 +18,15 @@ wide-requires : tie.Need-wide-requires
 wide-requires c κs = search needs
 
 segments-rank-requires : tie.Need-segments-rank-requires
-segments-rank-requires c κs = omega (
-  arith,
-  leaf-rank-is _ _ _ _ _ _ _ _ (c .before .before .before .pre .stride) (c .before .before .segment-len .ensures) (c .wide .ensures) (c .before .part-before .ensures),
-  count-le (leafOf (c .before .before .before .args .f)) (c .before .before .before .args .x),
-  c .before .before .before .fits .x,
-)
+segments-rank-requires c κs =
+    let s = c .before .before .before in
+    let is = leaf-rank-is _ _ _ _ _ _ _ _ (s .pre .stride) (c .before .before .segment-len .ensures) (c .wide .ensures) (c .before .part-before .ensures) in
+    omega (arith, is, count-le (leafOf (s .args .f)) (s .args .x), s .fits .x)
 
 returns : tie.Need-returns
-returns c = c .segments-rank .ensures ∙ leaf-rank-is _ _ _ _ _ _ _ _ (c .before .before .before .before .pre .stride) (c .before .before .before .segment-len .ensures) (c .before .wide .ensures) (c .before .before .part-before .ensures)
+returns c =
+    let d = c .before in
+    c .segments-rank .ensures ∙ leaf-rank-is _ _ _ _ _ _ _ _ (d .before .before .before .pre .stride) (d .before .before .segment-len .ensures) (d .wide .ensures) (d .before .part-before .ensures)
 
 pub leaf-rank-spec : {M : Type 1} → statement M
 leaf-rank-spec =

@@ -23,10 +23,14 @@ add-result : tie.Need-add-result
 add-result c = search needs
 
 returns-2 : tie.Need-returns-2
-returns-2 c = part-past _ _ _ _ _ _ (c .before .before .before .before .before .past .ensures) (c .before .before .before .before .over .ensures) _ _ _ (c .before .before .before .if1 .left) (c .before .before .rest .ensures) (c .before .past2 .ensures) (c .if2 .taken)
+returns-2 c =
+    let d = c .before .before .before in
+    part-past _ _ _ _ _ _ (d .before .before .past .ensures) (d .before .over .ensures) _ _ _ (d .if1 .left) (c .before .before .rest .ensures) (c .before .past2 .ensures) (c .if2 .taken)
 
 returns-3 : tie.Need-returns-3
-returns-3 c = part-in _ _ _ _ _ _ (c .before .before .before .before .before .past .ensures) (c .before .before .before .before .over .ensures) _ _ _ (c .before .before .before .if1 .left) (c .before .before .rest .ensures) (c .before .past2 .ensures) (c .if2 .left)
+returns-3 c =
+    let d = c .before .before .before in
+    part-in _ _ _ _ _ _ (d .before .before .past .ensures) (d .before .over .ensures) _ _ _ (d .if1 .left) (c .before .before .rest .ensures) (c .before .past2 .ensures) (c .if2 .left)
 
 pub part-before-spec : {M : Type 1} → statement M
 part-before-spec =

@@ -83,24 +83,31 @@ turn : (t : ℕ) (c : inverse-lts.Joined1 (callees t) (inverse-at t) inverse.Pos
 turn t c = size-step _ _ _ _ _ (here-at t (c .before .before)) _ (each-at t c)
 
 -- the offset sought is in the family at hand
-within : (t : ℕ) (c : inverse-lts.Then2 (callees t) (inverse-at t) inverse.Post inverse-Inv-loop inverse-μ-loop) → c .before .before .before .before .before .before .loop .skip < c .before .before .before .before .family-at .result .n * c .before .before .if1 .each
+within : (t : ℕ) (c : inverse-lts.Then2 (callees t) (inverse-at t) inverse.Post inverse-Inv-loop inverse-μ-loop)
+    → let f = c .before .before .before .before .family-at .result in
+    c .before .before .before .before .before .before .loop .skip < f .n * c .before .before .if1 .each
 within t c = omega (arith, c .if2 .taken, c .before .segments-size .ensures)
 
 inside-lt : (t : ℕ) (c : inverse-lts.After-row-known (callees t) (inverse-at t) inverse.Post inverse-Inv-loop inverse-μ-loop)
-    → let f = c .before .before .before .before .before .family-at .result in
-    (f .children ≡ 0 → ⊥) → c .before .before .before .before .before .before .before .loop .skip % c .before .before .before .if1 .each < sizeOf (kidsOf (c .before .before .before .before .before .before .before .before .before .args .levels) (familyAt (c .before .before .before .before .before .before .before .before .before .args .numbers .now)) (c .before .before .before .before .before .before .before .loop .at) f)
+    → let a = c .before .before .before .before .before .before .before .before .before .args in
+    let l = c .before .before .before .before .before .before .before .loop in
+    let f = c .before .before .before .before .before .family-at .result in
+    (f .children ≡ 0 → ⊥) → l .skip % c .before .before .before .if1 .each < sizeOf (kidsOf (a .levels) (familyAt (a .numbers .now)) (l .at) f)
 inside-lt t c e =
     let H = here-at t (c .before .before .before .before .before) in
-    omega (arith, place-lt _ _ _ _ _ H _ _ (each-at t (c .before .before .before)) (within t (c .before)), each-at t (c .before .before .before), kids-each _ _ _ _ _ H _ e refl)
+    let each = each-at t (c .before .before .before) in
+    omega (arith, place-lt _ _ _ _ _ H _ _ each (within t (c .before)), each, kids-each _ _ _ _ _ H _ e refl)
 
 -- where the arms meet, `inside` is the place in the segment, so the offset is found, and fits
 found : (t : ℕ) (c : inverse-lts.Joined3 (callees t) (inverse-at t) inverse.Post inverse-Inv-loop inverse-μ-loop)
     → let a = c .before .before .before .before .before .before .before .before .before .before .args in
+    let l = c .before .before .before .before .before .before .before .before .loop in
     let f = c .before .before .before .before .before .before .family-at .result in
-    let F = forestAt (a .levels) (familyAt (a .numbers .now)) (c .before .before .before .before .before .before .before .before .loop .at) (c .before .before .before .before .before .before .before .before .loop .left) in
-    let x = f .l + c .before .before .before .before .before .before .before .before .loop .skip / c .before .before .before .before .if1 .each * f .s + c .if3 .inside in
-    (x ≡ nth (has F) (endOf F) (c .before .before .before .before .before .before .before .before .loop .skip)) × (x ≤ 2 ^ 32 - 1)
+    let F = forestAt (a .levels) (familyAt (a .numbers .now)) (l .at) (l .left) in
+    let x = f .l + l .skip / c .before .before .before .before .if1 .each * f .s + c .if3 .inside in
+    (x ≡ nth (has F) (endOf F) (l .skip)) × (x ≤ 2 ^ 32 - 1)
 found t c =
+    let l = c .before .before .before .before .before .before .before .before .loop in
     let H = here-at t (c .before .before .before .before .before .before) in
     let each = each-at t (c .before .before .before .before) in
     let less = within t (c .before .before) in
@@ -108,7 +115,7 @@ found t c =
     (λ w. nth-kids _ _ _ _ _ H _ _ (w .0 .taken) (inside-lt t (c .before) (w .0 .taken)) (w .2 ∙ w .1 .ensures))
     (λ w. w .1 ∙ nth-leaf _ _ _ _ _ H _ (w .0 .left) (omega (arith, place-lt _ _ _ _ _ H _ _ each less, each-le _ _ _ _ _ H _ each)))
     (c .if3 .came)) in
-    (is, omega (arith, is, nth-le _ (2 ^ 32 - 1) _ (c .before .before .before .before .before .before .before .before .loop .inv .0) (c .before .before .before .before .before .before .before .before .loop .inv .1)))
+    (is, omega (arith, is, nth-le _ (2 ^ 32 - 1) _ (l .inv .0) (l .inv .1)))
 
 inverse-loop-holds : (t : ℕ) → inverse-lts.Need-loop-holds (callees t) (inverse-at t) inverse.Post inverse-Inv-loop inverse-μ-loop
 inverse-loop-holds t c = (c .before .pre .1 .0, c .before .pre .1 .1, refl)
@@ -135,13 +142,18 @@ inverse-div-k : (t : ℕ) → inverse-lts.Need-div-k (callees t) (inverse-at t) 
 inverse-div-k t c = positive _ _ _ (within t (c .before))
 
 inverse-cast-k : (t : ℕ) → inverse-lts.Need-cast-k (callees t) (inverse-at t) inverse.Post inverse-Inv-loop inverse-μ-loop
-inverse-cast-k t c = omega (arith, digit-fits _ _ _ _ _ (here-at t (c .before .before .before .before .before)) _ _ (each-at t (c .before .before .before)) (within t (c .before)))
+inverse-cast-k t c =
+    let H = here-at t (c .before .before .before .before .before) in
+    omega (arith, digit-fits _ _ _ _ _ H _ _ (each-at t (c .before .before .before)) (within t (c .before)))
 
 inverse-rem-inside : (t : ℕ) → inverse-lts.Need-rem-inside (callees t) (inverse-at t) inverse.Post inverse-Inv-loop inverse-μ-loop
 inverse-rem-inside t c = positive _ _ _ (within t (c .before))
 
 inverse-cast-inside : (t : ℕ) → inverse-lts.Need-cast-inside (callees t) (inverse-at t) inverse.Post inverse-Inv-loop inverse-μ-loop
-inverse-cast-inside t c = omega (arith, place-lt _ _ _ _ _ (here-at t (c .before .before .before .before .before)) _ _ (each-at t (c .before .before .before)) (within t (c .before)), each-le _ _ _ _ _ (here-at t (c .before .before .before .before .before)) _ (each-at t (c .before .before .before)), here-at t (c .before .before .before .before .before) .fits .inside)
+inverse-cast-inside t c =
+    let H = here-at t (c .before .before .before .before .before) in
+    let each = each-at t (c .before .before .before) in
+    omega (arith, place-lt _ _ _ _ _ H _ _ each (within t (c .before)), each-le _ _ _ _ _ H _ each, H .fits .inside)
 
 inverse-add-inverse : (t : ℕ) → inverse-lts.Need-add-inverse (callees t) (inverse-at t) inverse.Post inverse-Inv-loop inverse-μ-loop
 inverse-add-inverse t c = omega (arith, held-at t (c .before .before .before .before .before .before .before))
@@ -180,16 +192,20 @@ inverse-loop-less t c = omega arith
 
 inverse-loop-again : (t : ℕ) → inverse-lts.Need-loop-again (callees t) (inverse-at t) inverse.Post inverse-Inv-loop inverse-μ-loop
 inverse-loop-again t c =
+    let l = c .before .before .before .before .before .before .before .loop in
     let H = here-at t (c .before .before .before .before .before) in
     let e = c .before .before .segments-size .ensures in
     rw (c .next .ensures, e) (
       H .rest-ok,
-      omega (arith, turn t (c .before .before .before), c .before .before .before .before .before .before .before .loop .inv .1, c .before .if2 .left, e),
-      c .before .before .before .before .before .before .before .loop .inv .2 ∙ nth-rest _ _ _ _ _ H _ _ (each-at t (c .before .before .before)) (omega (arith, c .before .if2 .left, e)) (c .before .before .before .before .before .before .before .loop .inv .1),
+      omega (arith, turn t (c .before .before .before), l .inv .1, c .before .if2 .left, e),
+      l .inv .2 ∙ nth-rest _ _ _ _ _ H _ _ (each-at t (c .before .before .before)) (omega (arith, c .before .if2 .left, e)) (l .inv .1),
     )
 
 inverse-returns-2 : (t : ℕ) → inverse-lts.Need-returns-2 (callees t) (inverse-at t) inverse.Post inverse-Inv-loop inverse-μ-loop
-inverse-returns-2 t c = absurd (omega (arith, c .before .loop .inv .1, size-none (c .before .before .before .args .levels) (familyAt (c .before .before .before .args .numbers .now)) (c .before .loop .at) (c .before .loop .left) (omega (arith, c .loop-test .left))))
+inverse-returns-2 t c =
+    let a = c .before .before .before .args in
+    let l = c .before .loop in
+    absurd (omega (arith, l .inv .1, size-none (a .levels) (familyAt (a .numbers .now)) (l .at) (l .left) (omega (arith, c .loop-test .left))))
 
 pub +inverse-spec : {M : Type 1} → statement M
 +inverse-spec = close μ-inverse λ t. inverse-lts.spec (callees t)

@@ -109,9 +109,10 @@ rank-rank-requires t c κs =
 
 rank-segments-rank-requires : (t : ℕ) → rank-lts.Need-segments-rank-requires (callees t) (rank-at t) rank.Post rank-Inv-loop rank-μ-loop
 rank-segments-rank-requires t c κs =
+    let s = c .before .before .before .before .before .before .before .before in
     let H = here-at t (c .before .before .before .before) in
-    let nested = kids-count _ _ _ _ _ H (c .before .before .before .before .before .before .before .before .args .x) _ _ _ (c .before .before .before .if1 .left) (c .before .before .size .ensures) (c .before .part-before .ensures) (c .rank .ensures) in
-    omega (arith, rank-step _ _ _ _ _ H _ _ nested, c .before .before .before .before .before .before .loop .inv .1, whole-le t (c .before .before .before .before .before .before .before .before))
+    let nested = kids-count _ _ _ _ _ H (s .args .x) _ _ _ (c .before .before .before .if1 .left) (c .before .before .size .ensures) (c .before .part-before .ensures) (c .rank .ensures) in
+    omega (arith, rank-step _ _ _ _ _ H _ _ nested, c .before .before .before .before .before .before .loop .inv .1, whole-le t s)
 
 rank-add-sum : (t : ℕ) → rank-lts.Need-add-sum (callees t) (rank-at t) rank.Post rank-Inv-loop rank-μ-loop
 rank-add-sum t c = omega (arith, turn t (c .before), whole-le t (c .before .before .before .before .before .before))
@@ -129,7 +130,10 @@ rank-loop-again : (t : ℕ) → rank-lts.Need-loop-again (callees t) (rank-at t)
 rank-loop-again t c = rw (c .next .ensures) (here-at t (c .before .before .before) .rest-ok, omega (arith, turn t (c .before .before)))
 
 rank-returns : (t : ℕ) → rank-lts.Need-returns (callees t) (rank-at t) rank.Post rank-Inv-loop rank-μ-loop
-rank-returns t c = omega (arith, c .before .loop .inv .1, rank-none (c .before .before .before .args .levels) (familyAt (c .before .before .before .args .numbers .now)) (c .before .loop .at) (c .before .loop .left) (c .before .before .before .args .x) (omega (arith, c .loop-test .left)))
+rank-returns t c =
+    let a = c .before .before .before .args in
+    let l = c .before .loop in
+    omega (arith, l .inv .1, rank-none (a .levels) (familyAt (a .numbers .now)) (l .at) (l .left) (a .x) (omega (arith, c .loop-test .left)))
 
 pub +rank-spec : {M : Type 1} → statement M
 +rank-spec = close μ-rank λ t. rank-lts.spec (callees t)

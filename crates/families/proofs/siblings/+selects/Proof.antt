@@ -61,7 +61,9 @@ selects-in-segments-requires : (t : ℕ) → selects-lts.Need-in-segments-requir
 selects-in-segments-requires t c κs = here-at t c .fits .stride
 
 selects-returns : (t : ℕ) → selects-lts.Need-returns (callees t) (selects-at t) selects.Post selects-Inv-loop selects-μ-loop
-selects-returns t c = sym (c .before .before .before .before .before .loop .inv .1 ∙ has-leaf _ _ _ _ _ (here-at t (c .before .before .before)) _ _ (c .before .before .in-segments .ensures) (c .before .if1 .taken) (c .if2 .taken))
+selects-returns t c =
+    let H = here-at t (c .before .before .before) in
+    sym (c .before .before .before .before .before .loop .inv .1 ∙ has-leaf _ _ _ _ _ H _ _ (c .before .before .in-segments .ensures) (c .before .if1 .taken) (c .if2 .taken))
 
 selects-add-selects : (t : ℕ) → selects-lts.Need-add-selects (callees t) (selects-at t) selects.Post selects-Inv-loop selects-μ-loop
 selects-add-selects t c = omega (arith, held-at t (c .before .before .before .before))
@@ -79,9 +81,9 @@ selects-selects-requires t c κs =
 
 selects-returns-2 : (t : ℕ) → selects-lts.Need-returns-2 (callees t) (selects-at t) selects.Post selects-Inv-loop selects-μ-loop
 selects-returns-2 t c =
-    c .selects .ensures
-    ∙ sym (c .before .before .before .before .before .before .before .loop .inv .1
-    ∙ has-kids _ _ _ _ _ (here-at t (c .before .before .before .before .before)) _ _ (c .before .before .before .before .in-segments .ensures) (c .before .before .before .if1 .taken) (c .before .before .if2 .left) _ (c .before .place .ensures))
+    let H = here-at t (c .before .before .before .before .before) in
+    let below = has-kids _ _ _ _ _ H _ _ (c .before .before .before .before .in-segments .ensures) (c .before .before .before .if1 .taken) (c .before .before .if2 .left) _ (c .before .place .ensures) in
+    c .selects .ensures ∙ sym (c .before .before .before .before .before .before .before .loop .inv .1 ∙ below)
 
 selects-next-requires : (t : ℕ) → selects-lts.Need-next-requires (callees t) (selects-at t) selects.Post selects-Inv-loop selects-μ-loop
 selects-next-requires t c κs = omega (arith, held-at t (c .before .before .before))

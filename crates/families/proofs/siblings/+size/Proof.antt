@@ -112,7 +112,10 @@ size-loop-again t c =
     rw (c .next .ensures) (here-at t (c .before .before .before .before) .rest-ok, omega (arith, turn t (c .before .before), c .before .segments-size .ensures))
 
 size-returns : (t : ℕ) → size-lts.Need-returns (callees t) (size-at t) size.Post size-Inv-loop size-μ-loop
-size-returns t c = omega (arith, c .before .loop .inv .1, size-none (c .before .before .before .args .levels) (familyAt (c .before .before .before .args .numbers .now)) (c .before .loop .at) (c .before .loop .left) (omega (arith, c .loop-test .left)))
+size-returns t c =
+    let a = c .before .before .before .args in
+    let l = c .before .loop in
+    omega (arith, l .inv .1, size-none (a .levels) (familyAt (a .numbers .now)) (l .at) (l .left) (omega (arith, c .loop-test .left)))
 
 pub +size-spec : {M : Type 1} → statement M
 +size-spec = close μ-size λ t. size-lts.spec (callees t)
