@@ -69,10 +69,11 @@ turn : (t : ℕ) (c : rank-lts.Joined1 (callees t) (rank-at t) rank.Post rank-In
     let f = c .before .family-at .result in
     countBelow (has (forestAt (a .levels) (familyAt (a .numbers .now)) at left)) (a .x) ≡ c .if1 .here + countBelow (has (restOf (a .levels) (familyAt (a .numbers .now)) at left f)) (a .x)
 turn t c =
+    let x = c .before .before .before .before .before .args .x in
     let H = here-at t (c .before) in
-    rank-step _ _ _ _ _ H _ _ (⊎-elim
-    (λ w. leaf-counts _ _ _ _ _ H _ _ (w .0 .taken) (w .2 ∙ w .1 .ensures))
-    (λ w. w .5 ∙ w .4 .ensures ∙ kids-count _ _ _ _ _ H _ _ _ _ (w .0 .left) (w .1 .ensures) (w .2 .ensures) (w .3 .ensures))
+    rank-step _ _ _ _ _ H x _ (⊎-elim
+    (λ w. leaf-counts _ _ _ _ _ H x _ (w .0 .taken) (w .2 ∙ w .1 .ensures))
+    (λ w. w .5 ∙ w .4 .ensures ∙ kids-count _ _ _ _ _ H x _ _ _ (w .0 .left) (w .1 .ensures) (w .2 .ensures) (w .3 .ensures))
     (c .if1 .came))
 
 rank-loop-holds : (t : ℕ) → rank-lts.Need-loop-holds (callees t) (rank-at t) rank.Post rank-Inv-loop rank-μ-loop
