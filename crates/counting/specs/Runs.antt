@@ -34,7 +34,6 @@ abbrev pub rises : (ℕ → Bool) → ℕ → Bool
 rises p x = not (p x) && p (suc x)
 
 -- ---- what the runs are, said without building them
-
 -- some run has x
 unfoldable pub covers : List Run → ℕ → Bool
 covers [] x = false

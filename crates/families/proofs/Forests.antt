@@ -1,5 +1,5 @@
 -- Families in a row of siblings: what they select, how many before x, and the y-th. Assumes nothing.
-use mathlib.Core.Path.{_≡_, refl, sym, ap₂, _∙_}
+use mathlib.Core.Path.{fun-ext, _≡_, refl, sym, ap₂, _∙_}
 use mathlib.Core.Bool.{true, false, or-true, and-false, true≢false}
 use mathlib.Core.Logic.{⊎-elim}
 use Prim.Native.Nat.{ℕ, zero, suc, _+_, _-_, _*_, _/_, _%_, _≤_, _<_, max}
@@ -7,7 +7,7 @@ use native.Mathlib.Nat.{div-lt-iff-lt-mul, div-add-mod', mod-lt, mul-le-mul-righ
 use native.Mathlib.Omega.{arith}
 use Rattle.counting.specs.Count.{countBelow, nth}
 use Rattle.counting.proofs.Cases.{lt-or-le}
-use Rattle.counting.proofs.Counts.{count-ext, count-none, count-all, count-or, count-stop, count-le}
+use Rattle.counting.proofs.Counts.{count-none, count-all, count-or, count-stop, count-le}
 use Rattle.counting.proofs.Nths.{Found, nth-is, nth-found}
 use Rattle.families.specs.Forest.{Forest, nil, node, isNil, inSegments, has, inner, lastByte, endOf, sizeOf, Fits, WF}
 use Rattle.families.proofs.Division.{segments-before, segments-after, segments-at, count-at, segments-full}
@@ -64,20 +64,17 @@ unfolding sizeOf
 size-le a b F w = omega (arith, count-le (has F) (endOf F), end-le a b F w)
 
 -- ---- what is selected inside a segment: all of it without children, and else what they select
-pub inner-leaf : (kids : Forest) → isNil kids ≡ true → (y : ℕ) → inner kids y ≡ true
-inner-leaf kids e y = rw e refl
+pub inner-leaf : (kids : Forest) → isNil kids ≡ true → inner kids ≡ (λ _. true)
+inner-leaf kids e = fun-ext (λ y. rw e refl)
 
-pub inner-kids : (kids : Forest) → isNil kids ≡ false → (y : ℕ) → inner kids y ≡ has kids y
-inner-kids kids e y = rw e refl
+pub inner-kids : (kids : Forest) → isNil kids ≡ false → inner kids ≡ has kids
+inner-kids kids e = fun-ext (λ y. rw e refl)
 
 pub each-leaf : (kids : Forest) (m : ℕ) → isNil kids ≡ true → countBelow (inner kids) m ≡ m
-each-leaf kids m e = count-all _ m (λ y _. inner-leaf kids e y)
-
-pub part-kids : (kids : Forest) (m : ℕ) → isNil kids ≡ false → countBelow (inner kids) m ≡ countBelow (has kids) m
-part-kids kids m e = count-ext _ _ m (λ y _. inner-kids kids e y)
+each-leaf kids m e = rw (inner-leaf kids e) (count-all _ m (λ _ _. refl))
 
 pub each-kids : (last : ℕ) (kids : Forest) → WF 0 last kids → isNil kids ≡ false → countBelow (inner kids) (last + 1) ≡ sizeOf kids
-each-kids last kids w e = part-kids kids (last + 1) e ∙ size-at kids (last + 1) (end-le 0 last kids w)
+each-kids last kids w e = rw (inner-kids kids e) (size-at kids (last + 1) (end-le 0 last kids w))
 
 pub positive : (n e y : ℕ) → y < n * e → 0 < e
 positive n zero y h = absurd (omega (arith, mul-zero n))

@@ -1,6 +1,7 @@
 pub mod Division
 pub mod Forests
 pub mod OneFamily
+pub mod NestedFamily
 pub mod Steps
 pub mod Loops
 pub mod Filling

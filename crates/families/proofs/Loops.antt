@@ -1,7 +1,6 @@
--- One turn of the loops over siblings: membership, size, rank and inverse by the family at hand, its children and the rest.
--- Assumes nothing.
-use mathlib.Core.Path.{_≡_, refl, sym, ap, ap₂, _∙_, subst}
-use mathlib.Core.Bool.{Bool, true, false, _&&_, _||_, or-false, and-true, true≢false}
+-- One turn of the loops over siblings: membership, size, rank and inverse by the family at hand and the rest. Assumes nothing.
+use mathlib.Core.Path.{_≡_, refl, sym, ap, _∙_}
+use mathlib.Core.Bool.{Bool, true, false, _||_, or-false, true≢false}
 use mathlib.Core.List.{List}
 use mathlib.Core.Logic.{inl, inr, ⊎-elim}
 use Prim.Native.Nat.{ℕ, _+_, _-_, _*_, _/_, _%_, _≤_, _<_, _^_}
@@ -10,13 +9,14 @@ use native.Mathlib.Omega.{arith}
 use lib.ListN.{length}
 use Rattle.counting.specs.Count.{countBelow, nth}
 use Rattle.counting.proofs.Cases.{lt-or-le}
-use Rattle.counting.proofs.Counts.{count-ext, count-none, count-le}
-use Rattle.counting.proofs.Nths.{Found, nth-is, nth-found}
+use Rattle.counting.proofs.Counts.{count-none}
+use Rattle.counting.proofs.Nths.{nth-found}
 use Rattle.families.specs.declared.Family.{Family}
 use Rattle.families.specs.Forest.{Forest, has, inner, lastByte, endOf, sizeOf, Stride, WF, Sound}
-use Rattle.families.specs.Decoded.{forestAt, familyAt, segmentsOf, leafOf}
-use Rattle.families.proofs.Division.{segments-div, leaf-div, segments-after, segments-count, whole, part}
-use Rattle.families.proofs.Forests.{inner-leaf, inner-kids, each-leaf, part-kids, each-kids, rest-none, rank-node, size-node, end-le, positive, nth-here, nth-later}
+use Rattle.families.specs.Decoded.{segmentsOf, leafOf, Nested, forestAt, familyAt}
+use Rattle.families.proofs.Division.{segments-after}
+use Rattle.families.proofs.Forests.{rest-none, rank-node, size-node, end-le, positive, nth-here, nth-later}
+use Rattle.families.proofs.NestedFamily.{in-segment}
 use Rattle.families.proofs.Steps.{kidsOf, restOf, Step, step, none-left, leaf, branch, held}
 
 -- the family f stands at `at`, with `left` families left that are sound
@@ -31,15 +31,13 @@ pub held-here : (levels : ℕ) (row : List ℕ) (at left : ℕ) → 0 < left →
 held-here levels row at left h w = held row at (2 ^ 32 - 1) (here levels (familyAt row) at left (familyAt row at) h w refl .fits)
 
 module _ (levels : ℕ) (look : ℕ → Family) (at left : ℕ) (f : Family) (H : Here levels look at left f) where
+  pub nested : Nested f (kidsOf levels look at f)
+  nested = (H .fits, H .kids-ok)
+
   -- ---- membership
   has-step : (x : ℕ) → has (forestAt levels look at left) x ≡ (segmentsOf f (inner (kidsOf levels look at f)) x || has (restOf levels look at left f) x)
   unfolding has
   has-step x = ap (λ (G : Forest). has G x) (H .is)
-
-  in-segments : (x : ℕ) → segmentsOf f (inner (kidsOf levels look at f)) x ≡ (leafOf f x && inner (kidsOf levels look at f) ((x - f .l) % f .s))
-  in-segments x =
-      segments-div (inner (kidsOf levels look at f)) (f .l) (f .r) (f .s) (f .n) x (H .fits .stride)
-      ∙ ap (λ (b : Bool). b && inner (kidsOf levels look at f) ((x - f .l) % f .s)) (sym (leaf-div (f .l) (f .r) (f .s) (f .n) x (H .fits .stride)))
 
   -- x lies in a segment, so no younger sibling has it
   rest-apart : (x : ℕ) → leafOf f x ≡ true → has (restOf levels look at left f) x ≡ false
@@ -48,89 +46,53 @@ module _ (levels : ℕ) (look : ℕ → Family) (at left : ℕ) (f : Family) (H 
       (⊎-elim (λ h. absurd (true≢false (sym e ∙ segments-after (λ _. true) (f .l) (f .r) (f .s) (f .n) x h))) (λ h. h) (lt-or-le (lastByte (f .l) (f .r) (f .s) (f .n)) x))
 
   inside : (x : ℕ) → leafOf f x ≡ true → has (forestAt levels look at left) x ≡ inner (kidsOf levels look at f) ((x - f .l) % f .s)
-  inside x e = has-step x ∙ rw (rest-apart x e, in-segments x, e) (or-false _)
+  inside x e = has-step x ∙ rw (rest-apart x e, in-segment f (kidsOf levels look at f) nested x, e) (or-false _)
 
   pub has-leaf : (x : ℕ) (a : Bool) → a ≡ leafOf f x → a ≡ true → f .children ≡ 0 → has (forestAt levels look at left) x ≡ true
-  has-leaf x a i t e = inside x (sym i ∙ t) ∙ inner-leaf (kidsOf levels look at f) (leaf (levels - 1) look (at + 1) _ e) _
+  has-leaf x a i t e = inside x (sym i ∙ t) ∙ rw (leaf (levels - 1) look (at + 1) _ e) refl
 
   pub has-kids : (x : ℕ) (a : Bool) → a ≡ leafOf f x → a ≡ true → (f .children ≡ 0 → ⊥) → (w : ℕ) → w ≡ (x - f .l) % f .s
       → has (forestAt levels look at left) x ≡ has (kidsOf levels look at f) w
-  has-kids x a i t e w v = inside x (sym i ∙ t) ∙ inner-kids (kidsOf levels look at f) (branch (levels - 1) look (at + 1) _ e) _ ∙ ap (has (kidsOf levels look at f)) (sym v)
+  has-kids x a i t e w v = inside x (sym i ∙ t) ∙ rw (branch (levels - 1) look (at + 1) _ e, v) refl
 
   pub has-rest : (x : ℕ) (a : Bool) → a ≡ leafOf f x → a ≡ false → has (forestAt levels look at left) x ≡ has (restOf levels look at left f) x
-  has-rest x a i t = has-step x ∙ rw (in-segments x, ← i, t) refl
-
-  -- ---- size: `each` is what one segment selects
-  pub leaf-each : (each : ℕ) → f .children ≡ 0 → each ≡ (f .r - f .l + 1) → each ≡ countBelow (inner (kidsOf levels look at f)) (f .r - f .l + 1)
-  leaf-each each e h = h ∙ sym (each-leaf (kidsOf levels look at f) (f .r - f .l + 1) (leaf (levels - 1) look (at + 1) _ e))
-
-  pub kids-each : (each : ℕ) → (f .children ≡ 0 → ⊥) → each ≡ sizeOf (kidsOf levels look at f) → each ≡ countBelow (inner (kidsOf levels look at f)) (f .r - f .l + 1)
-  kids-each each e h = h ∙ sym (each-kids (f .r - f .l) (kidsOf levels look at f) (H .kids-ok) (branch (levels - 1) look (at + 1) _ e))
-
-  pub each-le : (each : ℕ) → each ≡ countBelow (inner (kidsOf levels look at f)) (f .r - f .l + 1) → each ≤ (f .r - f .l + 1)
-  each-le each h = omega (arith, count-le (inner (kidsOf levels look at f)) (f .r - f .l + 1))
-
-  pub size-step : (each : ℕ) → each ≡ countBelow (inner (kidsOf levels look at f)) (f .r - f .l + 1) → sizeOf (forestAt levels look at left) ≡ f .n * each + sizeOf (restOf levels look at left f)
-  size-step each h =
-      ap sizeOf (H .is)
-      ∙ size-node 0 (2 ^ 32 - 1) (f .l) (f .r) (f .s) (f .n) (kidsOf levels look at f) (restOf levels look at left f) (H .ok)
-      ∙ ap (λ (e : ℕ). f .n * e + sizeOf (restOf levels look at left f)) (sym h)
+  has-rest x a i t = has-step x ∙ rw (in-segment f (kidsOf levels look at f) nested x, ← i, t) refl
 
   -- ---- rank: `v` is what the family counts below x
-  pub leaf-counts : (x v : ℕ) → f .children ≡ 0 → v ≡ countBelow (leafOf f) x → v ≡ countBelow (segmentsOf f (inner (kidsOf levels look at f))) x
-  leaf-counts x v e h =
-      h ∙ count-ext _ _ x (λ y _. sym (in-segments y ∙ rw (inner-leaf (kidsOf levels look at f) (leaf (levels - 1) look (at + 1) _ e) ((y - f .l) % f .s)) (and-true (leafOf f y))))
-
-  pub kids-count : (x each some d : ℕ) → (f .children ≡ 0 → ⊥) → each ≡ sizeOf (kidsOf levels look at f) → d ≡ part (f .l) (f .r) (f .s) (f .n) x → some ≡ countBelow (has (kidsOf levels look at f)) d
-      → whole (f .l) (f .s) (f .n) x * each + some ≡ countBelow (segmentsOf f (inner (kidsOf levels look at f))) x
-  kids-count x each some d e h g k =
-      sym (segments-count (inner (kidsOf levels look at f)) (f .l) (f .r) (f .s) (f .n) x (H .fits .stride)
-      ∙ ap₂ (λ (a b : ℕ). whole (f .l) (f .s) (f .n) x * a + b) (sym (kids-each each e h))
-      (part-kids (kidsOf levels look at f) (part (f .l) (f .r) (f .s) (f .n) x) (branch (levels - 1) look (at + 1) _ e) ∙ ap (countBelow (has (kidsOf levels look at f))) (sym g) ∙ sym k))
-
   pub rank-step : (x v : ℕ) → v ≡ countBelow (segmentsOf f (inner (kidsOf levels look at f))) x → countBelow (has (forestAt levels look at left)) x ≡ v + countBelow (has (restOf levels look at left f)) x
   rank-step x v h =
       ap (λ (G : Forest). countBelow (has G) x) (H .is)
       ∙ rank-node 0 (2 ^ 32 - 1) (f .l) (f .r) (f .s) (f .n) (kidsOf levels look at f) (restOf levels look at left f) (H .ok) x
       ∙ ap (λ (c : ℕ). c + countBelow (has (restOf levels look at left f)) x) (sym h)
 
-  -- ---- inverse: `v` is the place inside a segment
-  pub nth-leaf : (y : ℕ) → f .children ≡ 0 → y < (f .r - f .l + 1) → y ≡ nth (inner (kidsOf levels look at f)) (f .r - f .l + 1) y
-  nth-leaf y e h =
-      let nil-kids = leaf (levels - 1) look (at + 1) _ e in
-      sym (nth-is _ (f .r - f .l + 1) y y h (inner-leaf (kidsOf levels look at f) nil-kids y) (each-leaf (kidsOf levels look at f) y nil-kids))
+  -- ---- size and inverse: `each` is what one segment selects
+  module _ (each : ℕ) (h : each ≡ countBelow (inner (kidsOf levels look at f)) (f .r - f .l + 1)) where
+    pub size-step : sizeOf (forestAt levels look at left) ≡ f .n * each + sizeOf (restOf levels look at left f)
+    size-step =
+        ap sizeOf (H .is)
+        ∙ size-node 0 (2 ^ 32 - 1) (f .l) (f .r) (f .s) (f .n) (kidsOf levels look at f) (restOf levels look at left f) (H .ok)
+        ∙ ap (λ (e : ℕ). f .n * e + sizeOf (restOf levels look at left f)) (sym h)
 
-  pub nth-kids : (y v : ℕ) → (f .children ≡ 0 → ⊥) → y < sizeOf (kidsOf levels look at f) → v ≡ nth (has (kidsOf levels look at f)) (endOf (kidsOf levels look at f)) y
-      → v ≡ nth (inner (kidsOf levels look at f)) (f .r - f .l + 1) y
-  unfolding sizeOf
-  nth-kids y v e h g =
-      let K = kidsOf levels look at f in
-      let some-kids = branch (levels - 1) look (at + 1) _ e in
-      let N : Found (has K) (endOf K) y v = subst (Found (has K) (endOf K) y) (sym g) (nth-found (has K) (endOf K) y h) in
-      sym (nth-is _ (f .r - f .l + 1) v y (omega (arith, N .below, end-le 0 (f .r - f .l) K (H .kids-ok))) (inner-kids K some-kids v ∙ N .passes) (part-kids K v some-kids ∙ N .rank))
-
-  module _ (each y : ℕ) (h : each ≡ countBelow (inner (kidsOf levels look at f)) (f .r - f .l + 1)) where
-    pub nth-in : (v : ℕ) → y < f .n * each → v ≡ nth (inner (kidsOf levels look at f)) (f .r - f .l + 1) (y % each)
+    -- the y-th offset is place v of segment y / each
+    pub nth-in : (y v : ℕ) → y < f .n * each → v ≡ nth (inner (kidsOf levels look at f)) (f .r - f .l + 1) (y % each)
         → f .l + y / each * f .s + v ≡ nth (has (forestAt levels look at left)) (endOf (forestAt levels look at left)) y
-    nth-in v g k = rw (H .is, k, h) (sym (nth-here 0 (2 ^ 32 - 1) (f .l) (f .r) (f .s) (f .n) (kidsOf levels look at f) (restOf levels look at left f) (H .ok) y (rw h at g)))
+    nth-in y v g k = rw (H .is, k, h) (sym (nth-here 0 (2 ^ 32 - 1) (f .l) (f .r) (f .s) (f .n) (kidsOf levels look at f) (restOf levels look at left f) (H .ok) y (rw h at g)))
 
-    pub nth-rest : f .n * each ≤ y → y < sizeOf (forestAt levels look at left)
+    -- or it is in the rest
+    pub nth-rest : (y : ℕ) → f .n * each ≤ y → y < sizeOf (forestAt levels look at left)
         → nth (has (forestAt levels look at left)) (endOf (forestAt levels look at left)) y ≡ nth (has (restOf levels look at left f)) (endOf (restOf levels look at left f)) (y - f .n * each)
-    nth-rest g k = rw (H .is, h) (nth-later 0 (2 ^ 32 - 1) (f .l) (f .r) (f .s) (f .n) (kidsOf levels look at f) (restOf levels look at left f) (H .ok) y (rw h at g) (rw (H .is) at k))
+    nth-rest y g k = rw (H .is, h) (nth-later 0 (2 ^ 32 - 1) (f .l) (f .r) (f .s) (f .n) (kidsOf levels look at f) (restOf levels look at left f) (H .ok) y (rw h at g) (rw (H .is) at k))
 
-    -- what the divisions of y give
-    pub digit-lt : y < f .n * each → y / each < f .n
-    digit-lt g = div-lt-iff-lt-mul (positive (f .n) each y g) .1 g
-
-    pub digit-fits : y < f .n * each → y / each < 2 ^ 32
-    digit-fits g = omega (arith, digit-lt g, few (H .fits .stride))
+    -- the segment's number fits, and the place lies in the segment
+    pub number-fits : (y : ℕ) → y < f .n * each → y / each < 2 ^ 32
+    number-fits y g = omega (arith, div-lt-iff-lt-mul {k = each} {x = y} {y = f .n} (positive (f .n) each y g) .1 g, few (H .fits .stride))
       where
         few : Stride (f .l) (f .r) (f .s) (f .n) → f .n ≤ 2 ^ 32
         few (inl e) = omega arith
         few (inr e) = omega (arith, le-mul-of-pos-right {m = f .s} (f .n - 1) (omega arith), H .fits .inside)
 
-    pub place-lt : y < f .n * each → y % each < each
-    place-lt g = mod-lt y (positive (f .n) each y g)
+    pub place-lt : (y : ℕ) → y < f .n * each → y % each < countBelow (inner (kidsOf levels look at f)) (f .r - f .l + 1)
+    place-lt y g = omega (arith, mod-lt y (positive (f .n) each y g))
 
 -- the y-th offset is below the bound
 pub nth-le : (F : Forest) (b y : ℕ) → WF 0 b F → y < sizeOf F → nth (has F) (endOf F) y ≤ b

@@ -159,7 +159,7 @@ module _ {levels : ℕ} {look : ℕ → Family} {F : Forest} {me at left : ℕ} 
 
 -- ---- what is selected inside a segment: all of it without children, and else what they select
 pub inner-all : (levels : ℕ) (look : ℕ → Family) (i k : ℕ) → k ≡ 0 → inner (forestAt levels look i k) ≡ (λ _. true)
-inner-all levels look i k e = λ d y. inner-leaf (forestAt levels look i k) (leaf levels look i k e) y d
+inner-all levels look i k e = inner-leaf (forestAt levels look i k) (leaf levels look i k e)
 
 pub inner-has : (levels : ℕ) (look : ℕ → Family) (i k : ℕ) → (k ≡ 0 → ⊥) → inner (forestAt levels look i k) ≡ has (forestAt levels look i k)
-inner-has levels look i k h = λ d y. inner-kids (forestAt levels look i k) (branch levels look i k h) y d
+inner-has levels look i k h = inner-kids (forestAt levels look i k) (branch levels look i k h)

@@ -2,7 +2,7 @@
 -- Assumes nothing: these are definitions.
 use mathlib.Core.Bool.{Bool, true}
 use mathlib.Core.List.{List, [], _∷_}
-use Prim.Native.Nat.{ℕ, zero, suc, _+_, _*_, _≤_, _<_}
+use Prim.Native.Nat.{ℕ, zero, suc, _+_, _-_, _*_, _^_, _≤_, _<_}
 use lib.ListN.{getD}
 use Rattle.counting.specs.Gather.{tabulated}
 use Rattle.families.specs.declared.Family.{Family}
@@ -10,7 +10,7 @@ use Rattle.families.specs.declared.Element.{Element}
 use Rattle.families.specs.declared.Layout.{Layout}
 use Rattle.families.specs.Forest.{Forest, nil, node, inSegments, has, Fits, WF}
 
--- one family by itself: its segments with what `inner` selects in each, those segments whole, and the sheet rules
+-- one family by itself: its segments with what `inner` selects in each, those segments whole, and the sheet rules, also with its children
 abbrev pub segmentsOf : Family → (inner : ℕ → Bool) → ℕ → Bool
 segmentsOf f inner x = inSegments inner (f .l) (f .r) (f .s) (f .n) x
 
@@ -19,6 +19,9 @@ leafOf f x = segmentsOf f (λ _. true) x
 
 abbrev pub FitsIn : (bound : ℕ) → Family → Type 0
 FitsIn bound f = Fits 0 bound (f .l) (f .r) (f .s) (f .n)
+
+abbrev pub Nested : Family → (kids : Forest) → Type 0
+Nested f kids = FitsIn (2 ^ 32 - 1) f × WF 0 (f .r - f .l) kids
 
 -- family i of an array; past its end a family with no segment, which no sheet rule admits
 abbrev pub familyIn : List Family → ℕ → Family
@@ -58,7 +61,6 @@ pub record Layout·ok (levels bound : ℕ) (t : Layout) : Type 0 where
   pub ruled : (e : ℕ) → e < t .elements → WF 0 bound (treeOf levels t e)
 
 -- ---- the families' numbers in a row, six a family, so that they can be lent. n stands last: a family that has a segment stands whole
-
 unfoldable pub rowOf : List Family → List ℕ
 rowOf [] = []
 rowOf (f ∷ fs) = f .children ∷ f .span ∷ f .l ∷ f .r ∷ f .s ∷ f .n ∷ rowOf fs

@@ -50,7 +50,6 @@ unfoldable pub sizeOf : Forest → ℕ
 sizeOf F = countBelow (has F) (endOf F)
 
 -- ---- the sheet rules
-
 -- with one segment the stride is 0; with more it is at least the segment's length
 abbrev pub Stride : (l r s n : ℕ) → Type 0
 Stride l r s n = ((n ≡ 1) × (s ≡ 0)) ⊎ ((2 ≤ n) × (r - l < s))

@@ -2,10 +2,11 @@
 //
 // The families' numbers are lent as one row, six a family, so that a call on the children copies nothing.
 ghost use mathlib.Core.Path.{_≡_};
-ghost use Prim.Native.Nat.{_<_};
+ghost use Prim.Native.Nat.{_+_, _-_, _<_};
 ghost use Rattle.counting.specs.Count.{countBelow, nth};
-ghost use Rattle.families.specs.Forest.{has, endOf, sizeOf, Sound};
-ghost use Rattle.families.specs.Decoded.{familyAt, forestAt};
+ghost use Rattle.families.specs.Forest.{has, inner, endOf, sizeOf, Sound};
+ghost use Rattle.families.specs.Decoded.{segmentsOf, familyAt, forestAt, Nested};
+use crate::Family;
 use crate::row;
 use crate::segments;
 
@@ -42,16 +43,24 @@ pub fn size(numbers: &[u32], first: usize, count: u32, levels: u32) -> u64
     let mut sum: u64 = 0;
     while 0 < left {
         let f = row::family_at(numbers, at);
-        let children = f.children;
-        let mut each = segments::segment_len(f);
-        if children != 0 {
-            each = size(numbers, at + 1, children, levels - 1);
-        }
+        let each = segment_size(numbers, f, at + 1, levels - 1);
         sum += segments::segments_size(f, each);
         at = row::next(f, at);
         left -= 1;
     }
     sum
+}
+
+// How many offsets one segment of f selects: all of them, or what f's children at `first` select.
+pub fn segment_size(numbers: &[u32], f: Family, first: usize, levels: u32) -> u64
+    requires { ⌜ Nested f (forestAt levels (familyAt (now numbers)) first (f .children)) ⌝ }
+    ensures { λ r. ⌜ r ≡ countBelow (inner (forestAt levels (familyAt (now (numbers .entry))) first (f .children))) (f .r - f .l + 1) ⌝ }
+{
+    let children = f.children;
+    if children == 0 {
+        return segments::segment_len(f);
+    }
+    size(numbers, first, children, levels)
 }
 
 // How many offsets below x the families select.
@@ -64,25 +73,26 @@ pub fn rank(numbers: &[u32], first: usize, count: u32, levels: u32, x: u32) -> u
     let mut sum: u64 = 0;
     while 0 < left {
         let f = row::family_at(numbers, at);
-        let children = f.children;
-        let here = if children == 0 {
-            segments::leaf_rank(f, x)
-        } else {
-            let each = size(numbers, at + 1, children, levels - 1);
-            let part = rank(
-                numbers,
-                at + 1,
-                children,
-                levels - 1,
-                segments::part_before(f, x),
-            );
-            segments::segments_rank(f, x, each, part)
-        };
-        sum += here;
+        sum += family_rank(numbers, f, at + 1, levels - 1, x);
         at = row::next(f, at);
         left -= 1;
     }
     sum
+}
+
+// How many offsets below x a family selects whose children stand at `first`.
+pub fn family_rank(numbers: &[u32], f: Family, first: usize, levels: u32, x: u32) -> u64
+    requires { ⌜ Nested f (forestAt levels (familyAt (now numbers)) first (f .children)) ⌝ }
+    ensures { λ r. ⌜ r ≡ countBelow (segmentsOf f (inner (forestAt levels (familyAt (now (numbers .entry))) first (f .children)))) x ⌝ }
+{
+    let children = f.children;
+    if children == 0 {
+        return segments::leaf_rank(f, x);
+    }
+    let each = size(numbers, first, children, levels);
+    let reach = segments::part_before(f, x);
+    let part = rank(numbers, first, children, levels, reach);
+    segments::segments_rank(f, x, each, part)
 }
 
 // The y-th offset that the families select, counted from 0.
@@ -95,18 +105,11 @@ pub fn inverse(numbers: &[u32], first: usize, count: u32, levels: u32, y: u64) -
     let mut skip = y;
     while 0 < left {
         let f = row::family_at(numbers, at);
-        let children = f.children;
-        let mut each = segments::segment_len(f);
-        if children != 0 {
-            each = size(numbers, at + 1, children, levels - 1);
-        }
+        let each = segment_size(numbers, f, at + 1, levels - 1);
         let here = segments::segments_size(f, each);
         if skip < here {
+            let inside = segment_inverse(numbers, f, at + 1, levels - 1, skip % each);
             let k = (skip / each) as u32;
-            let mut inside = (skip % each) as u32;
-            if children != 0 {
-                inside = inverse(numbers, at + 1, children, levels - 1, skip % each);
-            }
             return f.l + k * f.s + inside;
         }
         skip -= here;
@@ -115,4 +118,17 @@ pub fn inverse(numbers: &[u32], first: usize, count: u32, levels: u32, y: u64) -
     }
     // never reached: y is below the size
     0
+}
+
+// The y-th offset that one segment of f selects, from the segment's start: y itself, or the y-th of f's children at `first`.
+pub fn segment_inverse(numbers: &[u32], f: Family, first: usize, levels: u32, y: u64) -> u32
+    requires { ⌜ Nested f (forestAt levels (familyAt (now numbers)) first (f .children)) ⌝
+        ∗ ⌜ y < countBelow (inner (forestAt levels (familyAt (now numbers)) first (f .children))) (f .r - f .l + 1) ⌝ }
+    ensures { λ r. ⌜ r ≡ nth (inner (forestAt levels (familyAt (now (numbers .entry))) first (f .children))) (f .r - f .l + 1) y ⌝ }
+{
+    let children = f.children;
+    if children == 0 {
+        return y as u32;
+    }
+    inverse(numbers, first, children, levels, y)
 }
