@@ -1,7 +1,7 @@
 -- Lists made of a window, number by number: all of them, and those that pass. Assumes nothing.
 use mathlib.Core.Path.{_≡_, refl, sym, ap, ap₂, _∙_}
 use mathlib.Core.Bool.{Bool, true}
-use mathlib.Core.List.{List, _∷_, _++_}
+use mathlib.Core.List.{List, [], _∷_, _++_}
 use Prim.Native.Nat.{ℕ, zero, suc, _+_, _-_, _≤_, _<_}
 use native.Mathlib.Nat.{add-zero, zero-add, suc-add, add-sub-of-le, add-sub-cancel-left}
 use native.Mathlib.Omega.{arith}
@@ -30,6 +30,12 @@ module _ {A : Type 0} where
   tabulated-ext a zero f g h = refl
   tabulated-ext a (suc n) f g h =
       ap₂ (λ (v : A) (l : List A). v ∷ l) (h a (omega arith) (omega arith)) (tabulated-ext (suc a) n f g (λ x u v. h x (omega arith) (omega arith)))
+
+  -- one more
+  pub tabulated-more : (a n : ℕ) (f : ℕ → A) → tabulated a (suc n) f ≡ tabulated a n f ++ (f (a + n) ∷ [])
+  unfolding tabulated
+  tabulated-more a zero f = rw add-zero refl
+  tabulated-more a (suc n) f = let z : a + suc n ≡ suc a + n = omega arith in rw z (ap (λ (l : List A). f a ∷ l) (tabulated-more (suc a) n f))
 
 -- a file buffer and the bytes it holds
 pub inFile-tabulated : (a n : ℕ) (f : ℕ → ℕ) (x : ℕ) → a ≤ x → x < a + n → inFile a (tabulated a n f) x ≡ f x

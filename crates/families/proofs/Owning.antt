@@ -4,7 +4,7 @@ use mathlib.Core.Bool.{Bool, true, false, true≢false}
 use mathlib.Core.List.{List, [], _∷_, _++_}
 use mathlib.Core.Logic.{_↔_, ⊎-elim}
 use Prim.Native.Nat.{ℕ, zero, suc, _+_, _-_, _≤_, _<_}
-use native.Mathlib.Nat.{add-zero, zero-add}
+use native.Mathlib.Nat.{zero-add}
 use native.Mathlib.Numerals.{add-one}
 use native.Mathlib.Omega.{arith}
 use lib.ListN.{length, getD, replicate, length-replicate, getD-replicate}
@@ -13,7 +13,7 @@ use borrow.Author.Tests.{eq-eqb, ne-eqb}
 use Rattle.counting.specs.Count.{bit}
 use Rattle.counting.specs.Gather.{tabulated}
 use Rattle.counting.proofs.Cases.{byTest, lt-or-le}
-use Rattle.counting.proofs.Gathers.{length-tabulated, getD-tabulated}
+use Rattle.counting.proofs.Gathers.{length-tabulated, getD-tabulated, tabulated-more}
 use Rattle.families.specs.declared.Layout.{Layout}
 use Rattle.families.specs.Forest.{Forest, has, inner, WF}
 use Rattle.families.specs.Decoded.{elementOf, forestAt, familyAt, rowOf, treeOf, selections, Layout·ok}
@@ -144,11 +144,6 @@ painted-more L p m e l room =
 -- ---- the loop of `owners`: the table has the owners among the first e elements
 abbrev elementsTo : (levels : ℕ) → Layout → ℕ → List (ℕ → Bool)
 elementsTo levels t e = tabulated 0 e (λ d. has (treeOf levels t d))
-
-tabulated-more : {A : Type 0} (a n : ℕ) (f : ℕ → A) → tabulated a (suc n) f ≡ tabulated a n f ++ (f (a + n) ∷ [])
-unfolding tabulated
-tabulated-more a zero f = rw add-zero refl
-tabulated-more {A} a (suc n) f = let z : a + suc n ≡ suc a + n = omega arith in rw z (ap (λ (l : List A). f a ∷ l) (tabulated-more (suc a) n f))
 
 pub record Going (levels : ℕ) (t : Layout) (m e : ℕ) (table : List ℕ) : Type 0 where
   pub some : 0 < m
