@@ -31,14 +31,14 @@ any-one p q (suc n) l h =
     (lt-or-le q n)
 
 -- ---- the stride rule: place w of segment k is told apart by a division, also with the stride 0 of one segment
-pub record Digits (s k w : ℕ) : Type 0 where
+record Digits (s k w : ℕ) : Type 0 where
   pub quotient : (k * s + w) / s ≡ k
   pub remainder : (k * s + w) % s ≡ w
 
-pub digits : (l r s n k w : ℕ) → Stride l r s n → k < n → w ≤ r - l → Digits s k w
+digits : (l r s n k w : ℕ) → Stride l r s n → k < n → w ≤ r - l → Digits s k w
 digits l r s n k w (inl e) h m =
     let z : k ≡ 0 = omega arith in
-    rw (z, e .1) (record { quotient = div-zero _ ∙ refl; remainder = mod-zero _ ∙ rw zero-mul (zero-add w) })
+    rw (z, e .1) (record { quotient = div-zero _; remainder = mod-zero _ ∙ rw zero-mul (zero-add w) })
 digits l r s n k w (inr e) h m = record { quotient = digits-div k (omega arith); remainder = digits-mod k (omega arith) }
 
 -- ---- x is in a segment
@@ -51,10 +51,10 @@ segment-is l r s n x k st m a b =
     let D = digits l r s n k (x - (l + k * s)) st m (omega arith) in
     sym (D .quotient) ∙ ap (λ (y : ℕ). y / s) (omega arith)
 
-both-hold : (a b c : Bool) → (a ≡ true → b ≡ true → ⊥) → (a && (b && c)) ≡ false
-both-hold true true c h = absurd (h refl refl)
-both-hold true false c h = refl
-both-hold false b c h = refl
+not-both : (a b c : Bool) → (a ≡ true → b ≡ true → ⊥) → (a && (b && c)) ≡ false
+not-both true true c h = absurd (h refl refl)
+not-both true false c h = refl
+not-both false b c h = refl
 
 leb-shift : (a w b : ℕ) → leb (a + w) (a + b) ≡ leb w b
 leb-shift a w b = ⊎-elim
@@ -85,7 +85,7 @@ module _ (inner : ℕ → Bool) (l r s n x : ℕ) where
   segments-div st = ⊎-elim (λ h. segments-before h ∙ rw (lt-leb l x h) refl) (λ h. ⊎-elim (within h) (past h) (lt-or-le ((x - l) / s) n)) (lt-or-le x l)
     where
       other : (k : ℕ) → k < n → (k ≡ (x - l) / s → ⊥) → inSegment inner (l + k * s) (r - l) x ≡ false
-      other k m d = both-hold _ _ _ (λ a b. d (segment-is l r s n x k st m (leb-true _ _ a) (leb-true _ _ b)))
+      other k m d = not-both _ _ _ (λ a b. d (segment-is l r s n x k st m (leb-true _ _ a) (leb-true _ _ b)))
 
       within : l ≤ x → (x - l) / s < n → anyBelow (λ k. inSegment inner (l + k * s) (r - l) x) n ≡ (byDivision l r s n x && inner ((x - l) % s))
       within h m = any-one _ ((x - l) / s) n m other ∙ segment-at h ∙ rw (le-leb l x h, lt-ltb ((x - l) / s) n m) refl

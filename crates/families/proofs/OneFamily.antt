@@ -11,12 +11,12 @@ use Rattle.counting.proofs.Counts.{count-all}
 use Rattle.families.specs.Forest.{inSegments, Stride}
 use Rattle.families.proofs.Division.{leaf-div, whole, part, segments-count}
 
--- `over` and `rest`: native division has these values at 0
-pub over-zero : (a s : ℕ) → s ≡ 0 → 0 ≡ a / s
-over-zero a s e = rw e (sym (div-zero a))
+-- `quotient` and `remainder`: native division has these values at 0
+pub quotient-zero : (a s : ℕ) → s ≡ 0 → 0 ≡ a / s
+quotient-zero a s e = rw e (sym (div-zero a))
 
-pub rest-zero : (a s : ℕ) → s ≡ 0 → a ≡ a % s
-rest-zero a s e = rw e (sym (mod-zero a))
+pub remainder-zero : (a s : ℕ) → s ≡ 0 → a ≡ a % s
+remainder-zero a s e = rw e (sym (mod-zero a))
 
 -- `place`, and every division below: u is what `past` answers
 pub place-is : (x l s u w : ℕ) → u ≡ x - l → w ≡ u % s → w ≡ (x - l) % s
@@ -53,7 +53,7 @@ module _ (l s n x u q : ℕ) (e : u ≡ x - l) (f : q ≡ u / s) where
   pub part-in : (r w last : ℕ) → q < n → w ≡ u % s → last ≡ r - l → w ≤ last → w ≡ part l r s n x
   part-in r w last h g k m = rw (number-is x l s u q e f, lt-ltb q n h, ← place-is x l s u w e g, ← k) (omega arith)
 
--- `segments_rank`
+-- `counted_before`
 pub rank-is : (v w m each part : ℕ) → v ≡ w → w ≡ m → v * each + part ≡ m * each + part
 rank-is v w m each part e f = ap (λ (z : ℕ). z * each + part) (e ∙ f)
 

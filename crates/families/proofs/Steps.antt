@@ -29,7 +29,6 @@ pub record Step (levels : ℕ) (look : ℕ → Family) (at left bound : ℕ) (f 
   pub ok : WF 0 bound (node (f .l) (f .r) (f .s) (f .n) (kidsOf levels look at f) (restOf levels look at left f))
   pub fits : FitsIn bound f
   pub kids-ok : WF 0 (f .r - f .l) (kidsOf levels look at f)
-  pub kids-bound : WF 0 bound (kidsOf levels look at f)
   pub rest-ok : WF 0 bound (restOf levels look at left f)
 
 looked-up : (levels : ℕ) (look : ℕ → Family) (at left bound : ℕ) → 0 < left → WF 0 bound (forestAt levels look at left)
@@ -54,7 +53,6 @@ step levels look at left bound f h w e =
       ok = ok;
       fits = R .fits;
       kids-ok = R .kids-ok;
-      kids-bound = wf-wider (kidsOf levels look at f) (omega arith) (omega (arith, R .fits .inside)) (R .kids-ok);
       rest-ok = wf-wider (restOf levels look at left f) (omega arith) (omega arith) (R .rest-ok);
     }
 

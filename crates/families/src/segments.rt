@@ -9,7 +9,7 @@ ghost use Rattle.families.specs.Decoded.{leafOf, FitsIn};
 use crate::Family;
 
 // a / s, and 0 where s is 0
-pub fn over(a: u32, s: u32) -> u32
+pub fn quotient(a: u32, s: u32) -> u32
     ensures { λ r. ⌜ r ≡ a / s ⌝ }
 {
     if s == 0 {
@@ -19,7 +19,7 @@ pub fn over(a: u32, s: u32) -> u32
 }
 
 // a % s, and a where s is 0
-pub fn rest(a: u32, s: u32) -> u32
+pub fn remainder(a: u32, s: u32) -> u32
     ensures { λ r. ⌜ r ≡ a % s ⌝ }
 {
     if s == 0 {
@@ -60,7 +60,7 @@ pub fn place(f: Family, x: u32) -> u32
 {
     let l = f.l;
     let s = f.s;
-    rest(past(x, l), s)
+    remainder(past(x, l), s)
 }
 
 // Whether x lies in a segment of f, whatever f's children select there.
@@ -75,10 +75,10 @@ pub fn in_segments(f: Family, x: u32) -> bool
     if x < l {
         return false;
     }
-    if n <= over(x - l, s) {
+    if n <= quotient(x - l, s) {
         return false;
     }
-    rest(x - l, s) <= past(r, l)
+    remainder(x - l, s) <= past(r, l)
 }
 
 // How many whole segments of f lie before x.
@@ -88,7 +88,7 @@ pub fn whole_before(f: Family, x: u32) -> u32
     let l = f.l;
     let s = f.s;
     let n = f.n;
-    let q = over(past(x, l), s);
+    let q = quotient(past(x, l), s);
     if q < n {
         return q;
     }
@@ -104,10 +104,10 @@ pub fn part_before(f: Family, x: u32) -> u32
     let s = f.s;
     let n = f.n;
     let a = past(x, l);
-    if n <= over(a, s) {
+    if n <= quotient(a, s) {
         return 0;
     }
-    let w = rest(a, s);
+    let w = remainder(a, s);
     let last = past(r, l);
     if last < w {
         return last + 1;
@@ -115,8 +115,8 @@ pub fn part_before(f: Family, x: u32) -> u32
     w
 }
 
-// `each` for every whole segment of f before x, and `part` for the one after them.
-pub fn segments_rank(f: Family, x: u32, each: u64, part: u64) -> u64
+// What f counts before x, where a whole segment counts `each` and the one after them `part`.
+pub fn counted_before(f: Family, x: u32, each: u64, part: u64) -> u64
     requires { ⌜ min ((x - f .l) / f .s) (f .n) * each + part < 2 ^ 64 ⌝ }
     ensures { λ r. ⌜ r ≡ min ((x - f .l) / f .s) (f .n) * each + part ⌝ }
 {
@@ -128,11 +128,11 @@ pub fn leaf_rank(f: Family, x: u32) -> u64
     requires { ⌜ FitsIn (2 ^ 32 - 1) f ⌝ }
     ensures { λ r. ⌜ r ≡ countBelow (leafOf f) x ⌝ }
 {
-    segments_rank(f, x, segment_len(f), wide(part_before(f, x)))
+    counted_before(f, x, segment_len(f), wide(part_before(f, x)))
 }
 
-// `each` for every segment of f.
-pub fn segments_size(f: Family, each: u64) -> u64
+// What f counts in all, where a segment counts `each`.
+pub fn counted_in_all(f: Family, each: u64) -> u64
     requires { ⌜ f .n * each < 2 ^ 64 ⌝ }
     ensures { λ r. ⌜ r ≡ f .n * each ⌝ }
 {

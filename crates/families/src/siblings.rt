@@ -44,7 +44,7 @@ pub fn size(numbers: &[u32], first: usize, count: u32, levels: u32) -> u64
     while 0 < left {
         let f = row::family_at(numbers, at);
         let each = segment_size(numbers, f, at + 1, levels - 1);
-        sum += segments::segments_size(f, each);
+        sum += segments::counted_in_all(f, each);
         at = row::next(f, at);
         left -= 1;
     }
@@ -92,7 +92,7 @@ pub fn family_rank(numbers: &[u32], f: Family, first: usize, levels: u32, x: u32
     let each = size(numbers, first, children, levels);
     let reach = segments::part_before(f, x);
     let part = rank(numbers, first, children, levels, reach);
-    segments::segments_rank(f, x, each, part)
+    segments::counted_before(f, x, each, part)
 }
 
 // The y-th offset that the families select, counted from 0.
@@ -106,7 +106,7 @@ pub fn inverse(numbers: &[u32], first: usize, count: u32, levels: u32, y: u64) -
     while 0 < left {
         let f = row::family_at(numbers, at);
         let each = segment_size(numbers, f, at + 1, levels - 1);
-        let here = segments::segments_size(f, each);
+        let here = segments::counted_in_all(f, each);
         if skip < here {
             let inside = segment_inverse(numbers, f, at + 1, levels - 1, skip % each);
             let k = (skip / each) as u32;

@@ -7,14 +7,14 @@ use Rattle.families.proofs.segments.in_segments.Tie as tie
 returns : tie.Need-returns
 returns c = in-before _ _ _ _ _ (c .before .pre) (c .if1 .taken)
 
-over-requires : tie.Need-over-requires
-over-requires c κs = search needs
+quotient-requires : tie.Need-quotient-requires
+quotient-requires c κs = search needs
 
 returns-2 : tie.Need-returns-2
-returns-2 c = in-beyond _ _ _ _ _ (c .before .before .before .pre) _ (c .before .before .if1 .left) (c .if2 .taken) (c .before .over .ensures)
+returns-2 c = in-beyond _ _ _ _ _ (c .before .before .before .pre) _ (c .before .before .if1 .left) (c .if2 .taken) (c .before .quotient .ensures)
 
-rest-requires : tie.Need-rest-requires
-rest-requires c κs = search needs
+remainder-requires : tie.Need-remainder-requires
+remainder-requires c κs = search needs
 
 past-requires : tie.Need-past-requires
 past-requires c κs = search needs
@@ -22,8 +22,8 @@ past-requires c κs = search needs
 returns-3 : tie.Need-returns-3
 returns-3 c =
     let d = c .before .before in
-    in-within _ _ _ _ _ (d .before .before .before .pre) _ _ _ (d .before .before .if1 .left) (d .if2 .left) (d .before .over .ensures) (c .before .rest .ensures) (c .past .ensures)
+    in-within _ _ _ _ _ (d .before .before .before .pre) _ _ _ (d .before .before .if1 .left) (d .if2 .left) (d .before .quotient .ensures) (c .before .remainder .ensures) (c .past .ensures)
 
 pub in-segments-spec : {M : Type 1} → statement M
 in-segments-spec =
-    tie.close (tie.spec returns over-requires returns-2 rest-requires past-requires returns-3)
+    tie.close (tie.spec returns quotient-requires returns-2 remainder-requires past-requires returns-3)

@@ -17,8 +17,8 @@ part-before-requires c κs = search needs
 wide-requires : tie.Need-wide-requires
 wide-requires c κs = search needs
 
-segments-rank-requires : tie.Need-segments-rank-requires
-segments-rank-requires c κs =
+counted-before-requires : tie.Need-counted-before-requires
+counted-before-requires c κs =
     let s = c .before .before .before in
     let is = leaf-rank-is _ _ _ _ _ _ _ _ (s .pre .stride) (c .before .before .segment-len .ensures) (c .wide .ensures) (c .before .part-before .ensures) in
     omega (arith, is, count-le (leafOf (s .args .f)) (s .args .x), s .fits .x)
@@ -26,7 +26,7 @@ segments-rank-requires c κs =
 returns : tie.Need-returns
 returns c =
     let d = c .before in
-    c .segments-rank .ensures ∙ leaf-rank-is _ _ _ _ _ _ _ _ (d .before .before .before .pre .stride) (d .before .before .segment-len .ensures) (d .wide .ensures) (d .before .part-before .ensures)
+    c .counted-before .ensures ∙ leaf-rank-is _ _ _ _ _ _ _ _ (d .before .before .before .pre .stride) (d .before .before .segment-len .ensures) (d .wide .ensures) (d .before .part-before .ensures)
 
 pub leaf-rank-spec : {M : Type 1} → statement M
 leaf-rank-spec =
@@ -35,5 +35,5 @@ leaf-rank-spec =
     segment-len-requires
     part-before-requires
     wide-requires
-    segments-rank-requires
+    counted-before-requires
     returns)

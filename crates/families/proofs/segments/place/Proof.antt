@@ -7,11 +7,11 @@ use Rattle.families.proofs.segments.place.Tie as tie
 past-requires : tie.Need-past-requires
 past-requires c κs = search needs
 
-rest-requires : tie.Need-rest-requires
-rest-requires c κs = search needs
+remainder-requires : tie.Need-remainder-requires
+remainder-requires c κs = search needs
 
 returns : tie.Need-returns
-returns c = place-is _ _ _ _ _ (c .before .past .ensures) (c .rest .ensures)
+returns c = place-is _ _ _ _ _ (c .before .past .ensures) (c .remainder .ensures)
 
 pub place-spec : {M : Type 1} → statement M
-place-spec = tie.close (tie.spec past-requires rest-requires returns)
+place-spec = tie.close (tie.spec past-requires remainder-requires returns)

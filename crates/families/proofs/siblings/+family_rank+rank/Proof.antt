@@ -26,7 +26,7 @@ use Rattle.families.proofs.row.family_at.Reads as family-at-reads
 use Rattle.families.proofs.row.next.Reads as next-reads
 use Rattle.families.proofs.segments.leaf_rank.Reads as leaf-rank-reads
 use Rattle.families.proofs.segments.part_before.Reads as part-before-reads
-use Rattle.families.proofs.segments.segments_rank.Reads as segments-rank-reads
+use Rattle.families.proofs.segments.counted_before.Reads as counted-before-reads
 use Rattle.families.proofs.siblings.size.Reads as size-reads
 use Rattle.families.proofs.siblings.+family_rank+rank.{statement}
 use Rattle.families.proofs.siblings.+family_rank+rank.Tie.{close}
@@ -53,7 +53,7 @@ rank-below t = and 1 rank-kinds.ps (falls 1 rank-kinds.ps _<_ μ-rank t) rank.Pr
 
 -- what is known of the functions that `family_rank` calls
 abbrev family-callees : ℕ → family-rank-lts.Claims
-family-callees t = (leaf-rank-reads.Asked, leaf-rank-reads.Learnt, size-reads.Asked, size-reads.Learnt, part-before-reads.Asked, part-before-reads.Learnt, rank-below t, rank.Post, segments-rank-reads.Asked, segments-rank-reads.Learnt)
+family-callees t = (leaf-rank-reads.Asked, leaf-rank-reads.Learnt, size-reads.Asked, size-reads.Learnt, part-before-reads.Asked, part-before-reads.Learnt, rank-below t, rank.Post, counted-before-reads.Asked, counted-before-reads.Learnt)
 
 abbrev Kids : (t : ℕ) → family-rank-lts.After-shared-slice-known (family-callees t) (family-rank-at t) family-rank.Post → Forest
 Kids t c = let a = c .before .args in forestAt (a .levels) (familyAt (a .numbers .now)) (a .first) (a .f .children)
@@ -80,13 +80,13 @@ family-rank-part-before-requires t c κs = search needs
 family-rank-rank-requires : (t : ℕ) → family-rank-lts.Need-rank-requires (family-callees t) (family-rank-at t) family-rank.Post
 family-rank-rank-requires t c κs = (omega (arith, c .before .before .before .before .pre .0), kids-sound (c .before .before .before .before .args .f) _ (c .before .before .before .before .pre .1))
 
-family-rank-segments-rank-requires : (t : ℕ) → family-rank-lts.Need-segments-rank-requires (family-callees t) (family-rank-at t) family-rank.Post
-family-rank-segments-rank-requires t c κs =
+family-rank-counted-before-requires : (t : ℕ) → family-rank-lts.Need-counted-before-requires (family-callees t) (family-rank-at t) family-rank.Post
+family-rank-counted-before-requires t c κs =
     let a = c .before .before .before .before .before .args in
     omega (arith, by-kids t c, count-le (segmentsOf (a .f) (inner (Kids t (c .before .before .before .before)))) (a .x), c .before .before .before .before .before .fits .x)
 
 family-rank-returns-2 : (t : ℕ) → family-rank-lts.Need-returns-2 (family-callees t) (family-rank-at t) family-rank.Post
-family-rank-returns-2 t c = c .segments-rank .ensures ∙ by-kids t (c .before)
+family-rank-returns-2 t c = c .counted-before .ensures ∙ by-kids t (c .before)
 
 -- what is known of the functions that `rank` calls
 abbrev callees : ℕ → rank-lts.Claims
@@ -171,7 +171,7 @@ pub +family-rank+rank-spec : {M : Type 1} → statement M
     (family-rank-size-requires t)
     (family-rank-part-before-requires t)
     (family-rank-rank-requires t)
-    (family-rank-segments-rank-requires t)
+    (family-rank-counted-before-requires t)
     (family-rank-returns-2 t))
     λ t. rank-lts.spec (
       family-at-reads.Asked,

@@ -22,7 +22,7 @@ use Rattle.families.proofs.siblings.segment_inverse.Kinds as segment-in
 use Rattle.families.proofs.siblings.+inverse+segment_inverse.Lts-segment_inverse as segment-inverse-lts
 use Rattle.families.proofs.row.family_at.Reads as family-at-reads
 use Rattle.families.proofs.row.next.Reads as next-reads
-use Rattle.families.proofs.segments.segments_size.Reads as segments-size-reads
+use Rattle.families.proofs.segments.counted_in_all.Reads as counted-in-all-reads
 use Rattle.families.proofs.siblings.segment_size.Reads as segment-size-reads
 use Rattle.families.proofs.siblings.+inverse+segment_inverse.{statement}
 use Rattle.families.proofs.siblings.+inverse+segment_inverse.Tie.{close}
@@ -57,7 +57,7 @@ segment-inverse-below t =
 
 -- what is known of the functions that `inverse` calls
 abbrev callees : ℕ → inverse-lts.Claims
-callees t = (family-at-reads.Asked, family-at-reads.Learnt, segment-size-reads.Asked, segment-size-reads.Learnt, segments-size-reads.Asked, segments-size-reads.Learnt, segment-inverse-below t, segment-inverse.Post, next-reads.Asked, next-reads.Learnt)
+callees t = (family-at-reads.Asked, family-at-reads.Learnt, segment-size-reads.Asked, segment-size-reads.Learnt, counted-in-all-reads.Asked, counted-in-all-reads.Learnt, segment-inverse-below t, segment-inverse.Post, next-reads.Asked, next-reads.Learnt)
 
 abbrev inverse-Inv-loop : inverse-lts.InvT-loop
 inverse-Inv-loop numbers first count levels y at₀ left₀ skip₀ at left skip =
@@ -93,7 +93,7 @@ turn t c = size-step _ _ _ _ _ (here-at t (c .before)) _ (c .segment-size .ensur
 
 -- the offset sought is in the family at hand
 within : (t : ℕ) (c : inverse-lts.Then1 (callees t) (inverse-at t) inverse.Post inverse-Inv-loop inverse-μ-loop) → c .before .before .before .before .before .loop .skip < c .before .before .before .family-at .result .n * c .before .before .segment-size .result
-within t c = omega (arith, c .if1 .taken, c .before .segments-size .ensures)
+within t c = omega (arith, c .if1 .taken, c .before .counted-in-all .ensures)
 
 -- and is found there, and fits
 found : (t : ℕ) (c : inverse-lts.After-segment-inverse (callees t) (inverse-at t) inverse.Post inverse-Inv-loop inverse-μ-loop)
@@ -123,8 +123,8 @@ inverse-sub-segment-size t c = here-at t c .deep
 inverse-segment-size-requires : (t : ℕ) → inverse-lts.Need-segment-size-requires (callees t) (inverse-at t) inverse.Post inverse-Inv-loop inverse-μ-loop
 inverse-segment-size-requires t c κs = nested _ _ _ _ _ (here-at t c)
 
-inverse-segments-size-requires : (t : ℕ) → inverse-lts.Need-segments-size-requires (callees t) (inverse-at t) inverse.Post inverse-Inv-loop inverse-μ-loop
-inverse-segments-size-requires t c κs = omega (arith, turn t c, left-le t (c .before .before .before))
+inverse-counted-in-all-requires : (t : ℕ) → inverse-lts.Need-counted-in-all-requires (callees t) (inverse-at t) inverse.Post inverse-Inv-loop inverse-μ-loop
+inverse-counted-in-all-requires t c κs = omega (arith, turn t c, left-le t (c .before .before .before))
 
 inverse-add-segment-inverse : (t : ℕ) → inverse-lts.Need-add-segment-inverse (callees t) (inverse-at t) inverse.Post inverse-Inv-loop inverse-μ-loop
 inverse-add-segment-inverse t c = omega (arith, held-at t (c .before .before .before .before))
@@ -172,7 +172,7 @@ inverse-loop-again t c =
     let l = c .before .before .before .before .before .before .loop in
     let H = here-at t (c .before .before .before .before) in
     let each = c .before .before .before .segment-size .ensures in
-    let e = c .before .before .segments-size .ensures in
+    let e = c .before .before .counted-in-all .ensures in
     rw (c .next .ensures, e) (
       H .rest-ok,
       omega (arith, turn t (c .before .before .before), l .inv .1, c .before .if1 .left, e),
@@ -227,7 +227,7 @@ pub +inverse+segment-inverse-spec : {M : Type 1} → statement M
     (inverse-add-segment-size t)
     (inverse-sub-segment-size t)
     (inverse-segment-size-requires t)
-    (inverse-segments-size-requires t)
+    (inverse-counted-in-all-requires t)
     (inverse-add-segment-inverse t)
     (inverse-sub-segment-inverse t)
     (inverse-rem-segment-inverse t)

@@ -23,7 +23,7 @@ use Rattle.families.proofs.siblings.+segment_size+size.Lts-size as size
 use Rattle.families.proofs.row.family_at.Reads as family-at-reads
 use Rattle.families.proofs.row.next.Reads as next-reads
 use Rattle.families.proofs.segments.segment_len.Reads as segment-len-reads
-use Rattle.families.proofs.segments.segments_size.Reads as segments-size-reads
+use Rattle.families.proofs.segments.counted_in_all.Reads as counted-in-all-reads
 use Rattle.families.proofs.siblings.+segment_size+size.{statement}
 use Rattle.families.proofs.siblings.+segment_size+size.Tie.{close}
 
@@ -87,7 +87,7 @@ segment-size-returns-2 t c = c .size .ensures ∙ sym (each-kids _ _ (c .before 
 
 -- what is known of the functions that `size` calls
 abbrev callees : ℕ → size-lts.Claims
-callees t = (family-at-reads.Asked, family-at-reads.Learnt, segment-size-below t, segment-size.Post, segments-size-reads.Asked, segments-size-reads.Learnt, next-reads.Asked, next-reads.Learnt)
+callees t = (family-at-reads.Asked, family-at-reads.Learnt, segment-size-below t, segment-size.Post, counted-in-all-reads.Asked, counted-in-all-reads.Learnt, next-reads.Asked, next-reads.Learnt)
 
 abbrev size-Inv-loop : size-lts.InvT-loop
 size-Inv-loop numbers first count levels at₀ left₀ sum₀ at left sum =
@@ -134,11 +134,11 @@ size-sub-segment-size t c = here-at t c .deep
 size-segment-size-requires : (t : ℕ) → size-lts.Need-segment-size-requires (callees t) (size-at t) size.Post size-Inv-loop size-μ-loop
 size-segment-size-requires t c κs = (omega (arith, here-at t c .deep, c .before .before .before .before .pre .0), nested _ _ _ _ _ (here-at t c))
 
-size-segments-size-requires : (t : ℕ) → size-lts.Need-segments-size-requires (callees t) (size-at t) size.Post size-Inv-loop size-μ-loop
-size-segments-size-requires t c κs = omega (arith, turn t c, c .before .before .before .loop .inv .1, whole-le t (c .before .before .before .before .before))
+size-counted-in-all-requires : (t : ℕ) → size-lts.Need-counted-in-all-requires (callees t) (size-at t) size.Post size-Inv-loop size-μ-loop
+size-counted-in-all-requires t c κs = omega (arith, turn t c, c .before .before .before .loop .inv .1, whole-le t (c .before .before .before .before .before))
 
 size-add-sum : (t : ℕ) → size-lts.Need-add-sum (callees t) (size-at t) size.Post size-Inv-loop size-μ-loop
-size-add-sum t c = omega (arith, turn t (c .before), c .segments-size .ensures, c .before .before .before .before .loop .inv .1, whole-le t (c .before .before .before .before .before .before))
+size-add-sum t c = omega (arith, turn t (c .before), c .counted-in-all .ensures, c .before .before .before .before .loop .inv .1, whole-le t (c .before .before .before .before .before .before))
 
 size-next-requires : (t : ℕ) → size-lts.Need-next-requires (callees t) (size-at t) size.Post size-Inv-loop size-μ-loop
 size-next-requires t c κs = omega (arith, held-at t (c .before .before .before))
@@ -150,7 +150,7 @@ size-loop-less : (t : ℕ) → size-lts.Need-loop-less (callees t) (size-at t) s
 size-loop-less t c = omega arith
 
 size-loop-again : (t : ℕ) → size-lts.Need-loop-again (callees t) (size-at t) size.Post size-Inv-loop size-μ-loop
-size-loop-again t c = rw (c .next .ensures) (here-at t (c .before .before .before) .rest-ok, omega (arith, turn t (c .before .before), c .before .segments-size .ensures))
+size-loop-again t c = rw (c .next .ensures) (here-at t (c .before .before .before) .rest-ok, omega (arith, turn t (c .before .before), c .before .counted-in-all .ensures))
 
 size-returns : (t : ℕ) → size-lts.Need-returns (callees t) (size-at t) size.Post size-Inv-loop size-μ-loop
 size-returns t c =
@@ -176,8 +176,8 @@ pub +segment-size+size-spec : {M : Type 1} → statement M
       family-at-reads.Learnt,
       segment-size-below t,
       segment-size.Post,
-      segments-size-reads.Asked,
-      segments-size-reads.Learnt,
+      counted-in-all-reads.Asked,
+      counted-in-all-reads.Learnt,
       next-reads.Asked,
       next-reads.Learnt,
     )
@@ -190,7 +190,7 @@ pub +segment-size+size-spec : {M : Type 1} → statement M
     (size-add-segment-size t)
     (size-sub-segment-size t)
     (size-segment-size-requires t)
-    (size-segments-size-requires t)
+    (size-counted-in-all-requires t)
     (size-add-sum t)
     (size-next-requires t)
     (size-sub-left t)

@@ -7,7 +7,8 @@ use lib.ListN.{length}
 use borrow.Author.Needs.{needs}
 use Rattle.families.specs.Forest.{has, Sound}
 use Rattle.families.specs.Decoded.{familyAt, forestAt}
-use Rattle.families.proofs.Loops.{Here, here, held-here, has-leaf, has-kids, has-rest, has-none}
+use Rattle.families.proofs.NestedFamily.{kids-sound}
+use Rattle.families.proofs.Loops.{Here, here, held-here, nested, has-leaf, has-kids, has-rest, has-none}
 use Prim.Native.Nat.{ℕ, _<_}
 use borrow.Fn.Kinds.{In}
 use borrow.Fn.PlainCycle.{Measures, is, falls, and}
@@ -77,7 +78,7 @@ selects-place-requires t c κs = search needs
 selects-selects-requires : (t : ℕ) → selects-lts.Need-selects-requires (callees t) (selects-at t) selects.Post selects-Inv-loop selects-μ-loop
 selects-selects-requires t c κs =
     let H = here-at t (c .before .before .before .before) in
-    (omega (arith, H .deep, c .before .before .before .before .before .before .before .before .pre .0), H .kids-bound)
+    (omega (arith, H .deep, c .before .before .before .before .before .before .before .before .pre .0), kids-sound (c .before .before .before .before .family-at .result) _ (nested _ _ _ _ _ H))
 
 selects-returns-2 : (t : ℕ) → selects-lts.Need-returns-2 (callees t) (selects-at t) selects.Post selects-Inv-loop selects-μ-loop
 selects-returns-2 t c =

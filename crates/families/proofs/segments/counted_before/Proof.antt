@@ -1,9 +1,9 @@
--- `segments_rank` meets its contract. Assumes nothing.
+-- `counted_before` meets its contract. Assumes nothing.
 use native.Mathlib.Omega.{arith}
 use Rattle.families.proofs.OneFamily.{rank-is}
 use borrow.Author.Needs.{needs}
-use Rattle.families.proofs.segments.segments_rank.Statement.{statement}
-use Rattle.families.proofs.segments.segments_rank.Tie as tie
+use Rattle.families.proofs.segments.counted_before.Statement.{statement}
+use Rattle.families.proofs.segments.counted_before.Tie as tie
 
 whole-before-requires : tie.Need-whole-before-requires
 whole-before-requires c κs = search needs
@@ -20,6 +20,6 @@ add-result c = omega (arith, rank-is _ _ _ (c .before .before .args .each) (c .b
 returns : tie.Need-returns
 returns c = rank-is _ _ _ _ _ (c .wide .ensures) (c .before .whole-before .ensures)
 
-pub segments-rank-spec : {M : Type 1} → statement M
-segments-rank-spec =
+pub counted-before-spec : {M : Type 1} → statement M
+counted-before-spec =
     tie.close (tie.spec whole-before-requires wide-requires mul-result add-result returns)
