@@ -1,13 +1,13 @@
 -- The families' numbers in a row look up as the array does. Assumes nothing.
 use mathlib.Core.Path.{_≡_, refl, sym, ap, _∙_}
-use mathlib.Core.List.{List, [], _∷_, map}
-use Prim.Native.Nat.{ℕ, zero, suc, _+_, _*_, _<_}
-use native.Mathlib.Numerals.{unary-clauses}
+use mathlib.Core.List.{List, [], _∷_, _++_, map, append-nil, append-assoc}
+use Prim.Native.Nat.{ℕ, zero, suc, _+_, _*_, _≤_, _<_}
+use native.Mathlib.Numerals.{add-one, unary-clauses}
 use native.Mathlib.Omega.{arith}
-use lib.ListN.{length, set, length-map}
+use lib.ListN.{length, set, take, drop, length-map, length-append, length-drop, drop-of-length-le}
+use lib.Seq.{sets-eq, length-take-le, take-suc, take-all, take-at, drop-at, drop-drop}
 use Rattle.families.specs.declared.Family.{Family}
 use Rattle.families.specs.Decoded.{familyIn, forestAt, rowOf, familyAt}
-use Rattle.families.proofs.Filling.{Filled, filled-next}
 
 -- ---- how long the row is
 pub length-row : (fams : List Family) → length (rowOf fams) ≡ 6 * length fams
@@ -26,21 +26,58 @@ row-at (f ∷ fams) (suc i) = simp unary-clauses (simp unary-clauses at (row-at 
 pub row-tree : (levels : ℕ) (fams : List Family) (i k : ℕ) → forestAt levels (familyAt (rowOf fams)) i k ≡ forestAt levels (familyIn fams) i k
 row-tree levels fams i k = ap (λ (look : ℕ → Family). forestAt levels look i k) (λ d x. row-at fams x d)
 
--- ---- the loop of `lay_out`: one family's numbers
-pub row-next : (fams : List Family) (old numbers : List ℕ) (i : ℕ) → i < length fams → Filled (rowOf fams) old numbers (6 * i)
-    → let f = familyIn fams i in
-    Filled (rowOf fams) old
-    (set (set (set (set (set (set numbers (6 * i) (f .children)) (6 * i + 1) (f .span)) (6 * i + 2) (f .l)) (6 * i + 3) (f .r)) (6 * i + 4) (f .s)) (6 * i + 5) (f .n))
-    (6 * (i + 1))
-row-next fams old numbers i h F =
-    let long = length-row fams in
-    let e = sym (row-at fams i) in
-    filled-next (6 * (i + 1)) _ (omega arith) (omega arith) (ap (λ (f : Family). f .n) e)
-    (filled-next (6 * i + 5) _ (omega arith) (omega arith) (ap (λ (f : Family). f .s) e)
-    (filled-next (6 * i + 4) _ (omega arith) (omega arith) (ap (λ (f : Family). f .r) e)
-    (filled-next (6 * i + 3) _ (omega arith) (omega arith) (ap (λ (f : Family). f .l) e)
-    (filled-next (6 * i + 2) _ (omega arith) (omega arith) (ap (λ (f : Family). f .span) e)
-    (filled-next (6 * i + 1) _ refl (omega arith) (ap (λ (f : Family). f .children) e) F)))))
+-- ---- `put_family`: six stores are the six numbers
+pub six-stored : (f : Family) (six : List ℕ) → length six ≡ 6
+    → set (set (set (set (set (set six 0 (f .children)) 1 (f .span)) 2 (f .l)) 3 (f .r)) 4 (f .s)) 5 (f .n) ≡ rowOf (f ∷ [])
+unfolding rowOf
+six-stored f six e =
+    sets-eq (f .children ∷ f .span ∷ f .l ∷ f .r ∷ f .s ∷ f .n ∷ []) six 0 (omega arith) ∙ rw (drop-of-length-le six {i = 6} (omega arith)) refl
+
+-- ---- the loop of `lay_out`: the families below i stand in front, and the rest is as it was
+row-append : (gs hs : List Family) → rowOf (gs ++ hs) ≡ rowOf gs ++ rowOf hs
+unfolding rowOf
+row-append [] hs = refl
+row-append (f ∷ gs) hs = ap (λ (l : List ℕ). f .children ∷ f .span ∷ f .l ∷ f .r ∷ f .s ∷ f .n ∷ l) (row-append gs hs)
+
+pub record Laid (fams : List Family) (old numbers : List ℕ) (i : ℕ) : Type 0 where
+  pub upto : i ≤ length fams
+  pub room : length old ≡ 6 * length fams
+  pub is : numbers ≡ rowOf (take i fams) ++ drop (6 * i) old
+
+pub laid-none : (fams : List Family) (old : List ℕ) → length old ≡ 6 * length fams → Laid fams old old 0
+unfolding rowOf
+laid-none fams old e = record { upto = omega arith; room = e; is = refl }
+
+module _ {fams : List Family} {old numbers : List ℕ} {i : ℕ} (L : Laid fams old numbers i) where
+  abbrev done : List ℕ
+  done = rowOf (take i fams)
+
+  length-done : length done ≡ 6 * i
+  length-done = length-row (take i fams) ∙ ap (λ (k : ℕ). 6 * k) (length-take-le i fams (L .upto))
+
+  pub laid-long : length numbers ≡ length old
+  laid-long = ap length (L .is) ∙ length-append done (drop (6 * i) old) ∙ omega (arith, length-done, length-drop (6 * i) old, L .room, L .upto)
+
+  -- the part that is lent has room for one family
+  pub laid-part : (n : ℕ) → n ≡ 6 → i < length fams → length (take n (drop (6 * i) numbers)) ≡ 6
+  laid-part n z h = length-take-le n (drop (6 * i) numbers) (omega (arith, length-drop (6 * i) numbers, laid-long, L .room)) ∙ z
+
+  -- and what comes back is one family more
+  pub laid-next : (part : List ℕ) (n : ℕ) → n ≡ 6 → i < length fams → part ≡ rowOf (familyIn fams i ∷ []) → Laid fams old (take (6 * i) numbers ++ (part ++ drop n (drop (6 * i) numbers))) (i + 1)
+  laid-next part n z h e =
+      let no : Family = record { l = 0; r = 0; s = 0; n = 0; children = 0; span = 0 } in
+      let one : List ℕ = rowOf (familyIn fams i ∷ []) in
+      let before : take (6 * i) numbers ≡ done = ap (take (6 * i)) (L .is) ∙ take-at done (drop (6 * i) old) (6 * i) length-done in
+      let after : drop n (drop (6 * i) numbers) ≡ drop (6 * (i + 1)) old =
+      ap (λ (l : List ℕ). drop n (drop (6 * i) l)) (L .is)
+      ∙ ap (drop n) (drop-at done (drop (6 * i) old) (6 * i) length-done)
+      ∙ drop-drop n (6 * i) old
+      ∙ ap (λ (k : ℕ). drop k old) (let y : 6 * i + n ≡ 6 * (i + 1) = omega arith in y) in
+      let more : rowOf (take (i + 1) fams) ≡ done ++ one = rw (add-one i, take-suc fams i no h) (row-append (take i fams) (familyIn fams i ∷ [])) in
+      record { upto = omega arith; room = L .room; is = rw (before, after, e, more) (sym (append-assoc done one (drop (6 * (i + 1)) old))) }
+
+  pub laid-all : length fams ≤ i → numbers ≡ rowOf fams
+  laid-all h = L .is ∙ rw (take-all i fams h, drop-of-length-le old {i = 6 * i} (omega (arith, L .room))) (append-nil (rowOf fams))
 
 -- ---- the length of an array of structs, as the record of its range has it
 pub mapped-long : {X Y : Type 0} (f : X → Y) (l : List X) (n : ℕ) → length (map f l) ≡ n → length l ≡ n

@@ -1,5 +1,6 @@
 // The families' numbers in one row, six a family, so that they can be lent and no call copies them.
 ghost use mathlib.Core.Path.{_≡_};
+ghost use mathlib.Core.List.{[], _∷_};
 ghost use Prim.Native.Nat.{_+_, _*_, _^_, _<_};
 ghost use lib.ListN.{length};
 ghost use Rattle.families.specs.Decoded.{familyAt, rowOf};
@@ -14,15 +15,24 @@ pub fn lay_out(layout: Layout, numbers: &mut [u32])
     let mut i: usize = 0;
     while i < 256 {
         let f = layout.family[i];
-        let b = 6 * i;
-        numbers[b] = f.children;
-        numbers[b + 1] = f.span;
-        numbers[b + 2] = f.l;
-        numbers[b + 3] = f.r;
-        numbers[b + 4] = f.s;
-        numbers[b + 5] = f.n;
+        let from = 6 * i;
+        let to = from + 6;
+        put_family(f, &mut numbers[from..to]);
         i += 1;
     }
+}
+
+// Writes a family's numbers into a part of the row that has room for them alone.
+pub fn put_family(f: Family, six: &mut [u32])
+    requires { ⌜ length (now six) ≡ 6 ⌝ }
+    ensures { λ _. ⌜ now (six .exit) ≡ rowOf (f ∷ []) ⌝ }
+{
+    six[0] = f.children;
+    six[1] = f.span;
+    six[2] = f.l;
+    six[3] = f.r;
+    six[4] = f.s;
+    six[5] = f.n;
 }
 
 // The family at an index of the row.

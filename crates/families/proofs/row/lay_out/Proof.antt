@@ -1,24 +1,22 @@
--- `lay_out` meets its contract. The loop's invariant: the numbers of the families below i stand in the row. Assumes nothing.
+-- `lay_out` meets its contract. The loop's invariant: the families below i stand in the row, and behind them what stood there. Assumes nothing.
 use mathlib.Core.Path.{_≡_}
-use Prim.Native.Nat.{_-_, _*_, _≤_}
+use Prim.Native.Nat.{_+_, _-_, _*_}
 use native.Mathlib.Omega.{arith}
-use lib.ListN.{length, length-set}
-use Rattle.families.specs.Decoded.{rowOf}
-use Rattle.families.proofs.Filling.{Filled, filled-none, filled-all}
-use Rattle.families.proofs.Rows.{length-row, row-next, mapped-long}
+use lib.ListN.{length}
+use Rattle.families.proofs.Rows.{Laid, laid-none, laid-long, laid-part, laid-next, laid-all, mapped-long}
 use Rattle.families.proofs.row.lay_out.Statement.{statement}
 use Rattle.families.proofs.row.lay_out.Tie as tie
 
 abbrev Inv-loop : tie.InvT-loop
-Inv-loop numbers₀ layout i₀ numbers i = (i ≤ 256) × Filled (rowOf (layout .family)) numbers₀ numbers (6 * i)
+Inv-loop numbers₀ layout i₀ numbers i = Laid (layout .family) numbers₀ numbers i
 
 abbrev μ-loop : tie.MeasureT-loop
 μ-loop numbers₀ layout i₀ numbers i = 256 - i
 
 loop-holds : tie.Need-loop-holds Inv-loop μ-loop
 loop-holds c =
-    let long : length (c .args .t1 .family) ≡ 256 = search mapped-long in
-    (omega arith, filled-none _ _ (omega (arith, length-row (c .args .t1 .family))))
+    let long : length (c .before .args .t1 .family) ≡ 256 = search mapped-long in
+    laid-none _ _ (omega arith)
 
 mul-f : tie.Need-mul-f Inv-loop μ-loop
 mul-f c = omega arith
@@ -26,59 +24,29 @@ mul-f c = omega arith
 element-copy-out-f : tie.Need-element-copy-out-f Inv-loop μ-loop
 element-copy-out-f c = omega arith
 
-mul-b : tie.Need-mul-b Inv-loop μ-loop
-mul-b c = omega arith
+mul-from : tie.Need-mul-from Inv-loop μ-loop
+mul-from c = omega arith
 
-mul-numbers : tie.Need-mul-numbers Inv-loop μ-loop
-mul-numbers c = omega arith
+add-to : tie.Need-add-to Inv-loop μ-loop
+add-to c = omega arith
 
-slice-write-numbers : tie.Need-slice-write-numbers Inv-loop μ-loop
-slice-write-numbers c = omega arith
+mul-put-family : tie.Need-mul-put-family Inv-loop μ-loop
+mul-put-family c = omega arith
 
-add-numbers : tie.Need-add-numbers Inv-loop μ-loop
-add-numbers c = omega arith
+sub-put-family : tie.Need-sub-put-family Inv-loop μ-loop
+sub-put-family c = omega arith
 
-mul-numbers-2 : tie.Need-mul-numbers-2 Inv-loop μ-loop
-mul-numbers-2 c = omega arith
+part-put-family-start : tie.Need-part-put-family-start Inv-loop μ-loop
+part-put-family-start c = omega arith
 
-slice-write-numbers-2 : tie.Need-slice-write-numbers-2 Inv-loop μ-loop
-slice-write-numbers-2 c = simp length-set (omega arith)
+part-put-family-end : tie.Need-part-put-family-end Inv-loop μ-loop
+part-put-family-end c = omega (arith, laid-long (c .before .before .loop .inv))
 
-add-numbers-2 : tie.Need-add-numbers-2 Inv-loop μ-loop
-add-numbers-2 c = omega arith
-
-mul-numbers-3 : tie.Need-mul-numbers-3 Inv-loop μ-loop
-mul-numbers-3 c = omega arith
-
-slice-write-numbers-3 : tie.Need-slice-write-numbers-3 Inv-loop μ-loop
-slice-write-numbers-3 c = simp length-set (omega arith)
-
-add-numbers-3 : tie.Need-add-numbers-3 Inv-loop μ-loop
-add-numbers-3 c = omega arith
-
-mul-numbers-4 : tie.Need-mul-numbers-4 Inv-loop μ-loop
-mul-numbers-4 c = omega arith
-
-slice-write-numbers-4 : tie.Need-slice-write-numbers-4 Inv-loop μ-loop
-slice-write-numbers-4 c = simp length-set (omega arith)
-
-add-numbers-4 : tie.Need-add-numbers-4 Inv-loop μ-loop
-add-numbers-4 c = omega arith
-
-mul-numbers-5 : tie.Need-mul-numbers-5 Inv-loop μ-loop
-mul-numbers-5 c = omega arith
-
-slice-write-numbers-5 : tie.Need-slice-write-numbers-5 Inv-loop μ-loop
-slice-write-numbers-5 c = simp length-set (omega arith)
-
-add-numbers-5 : tie.Need-add-numbers-5 Inv-loop μ-loop
-add-numbers-5 c = omega arith
-
-mul-numbers-6 : tie.Need-mul-numbers-6 Inv-loop μ-loop
-mul-numbers-6 c = omega arith
-
-slice-write-numbers-6 : tie.Need-slice-write-numbers-6 Inv-loop μ-loop
-slice-write-numbers-6 c = simp length-set (omega arith)
+put-family-requires : tie.Need-put-family-requires Inv-loop μ-loop
+put-family-requires c κs =
+    let long : length (c .before .before .before .before .before .args .t1 .family) ≡ 256 = search mapped-long in
+    let i = c .before .before .before .loop .i in
+    laid-part (c .before .before .before .loop .inv) (6 * i + 6 - 6 * i) (omega arith) (omega arith)
 
 add-i : tie.Need-add-i Inv-loop μ-loop
 add-i c = omega arith
@@ -88,14 +56,17 @@ loop-less c = omega arith
 
 loop-again : tie.Need-loop-again Inv-loop μ-loop
 loop-again c =
-    let long : length (c .before .before .before .args .t1 .family) ≡ 256 = search mapped-long in
-    (omega arith, row-next _ _ _ _ (omega arith) (c .before .before .loop .inv .1))
+    let long : length (c .before .before .before .before .before .before .before .before .args .t1 .family) ≡ 256 = search mapped-long in
+    let i = c .before .before .before .before .before .before .loop .i in
+    laid-next (c .before .before .before .before .before .before .loop .inv) _ (6 * i + 6 - 6 * i) (omega arith) (omega arith) (c .before .before .put-family .ensures)
 
 same-length : tie.Need-same-length Inv-loop μ-loop
-same-length c = c .before .loop .inv .1 .same
+same-length c = laid-long (c .before .loop .inv)
 
 returns : tie.Need-returns Inv-loop μ-loop
-returns c = filled-all (c .before .loop .inv .1) (omega arith)
+returns c =
+    let long : length (c .before .before .before .args .t1 .family) ≡ 256 = search mapped-long in
+    laid-all (c .before .loop .inv) (omega arith)
 
 pub lay-out-spec : {M : Type 1} → statement M
 lay-out-spec =
@@ -106,24 +77,13 @@ lay-out-spec =
     loop-holds
     mul-f
     element-copy-out-f
-    mul-b
-    mul-numbers
-    slice-write-numbers
-    add-numbers
-    mul-numbers-2
-    slice-write-numbers-2
-    add-numbers-2
-    mul-numbers-3
-    slice-write-numbers-3
-    add-numbers-3
-    mul-numbers-4
-    slice-write-numbers-4
-    add-numbers-4
-    mul-numbers-5
-    slice-write-numbers-5
-    add-numbers-5
-    mul-numbers-6
-    slice-write-numbers-6
+    mul-from
+    add-to
+    mul-put-family
+    sub-put-family
+    part-put-family-start
+    part-put-family-end
+    put-family-requires
     add-i
     loop-less
     loop-again
