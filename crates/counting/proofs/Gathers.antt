@@ -1,7 +1,7 @@
 -- Lists made of a window, number by number: all of them, and those that pass. Assumes nothing.
 use mathlib.Core.Path.{_≡_, refl, sym, ap, ap₂, _∙_}
 use mathlib.Core.Bool.{Bool, true}
-use mathlib.Core.List.{List, [], _∷_, _++_}
+use mathlib.Core.List.{List, [], _∷_, _++_, map}
 use Prim.Native.Nat.{ℕ, zero, suc, _+_, _-_, _≤_, _<_}
 use native.Mathlib.Nat.{add-zero, zero-add, suc-add, add-sub-of-le, add-sub-cancel-left}
 use native.Mathlib.Omega.{arith}
@@ -36,6 +36,17 @@ module _ {A : Type 0} where
   unfolding tabulated
   tabulated-more a zero f = rw add-zero refl
   tabulated-more a (suc n) f = let z : a + suc n ≡ suc a + n = omega arith in rw z (ap (λ (l : List A). f a ∷ l) (tabulated-more (suc a) n f))
+
+  -- a list is what stands at its places
+  pub tabulated-list : (l : List A) (d : A) → tabulated 0 (length l) (λ i. getD l i d) ≡ l
+  tabulated-list l d =
+      ext-getD d (tabulated 0 (length l) (λ i. getD l i d)) l (length-tabulated 0 (length l) _) (λ i h.
+      getD-tabulated 0 (length l) (λ i. getD l i d) i d (omega (arith, length-tabulated 0 (length l) (λ i. getD l i d))) ∙ rw zero-add refl)
+
+pub tabulated-map : {A B : Type 0} (g : A → B) (a n : ℕ) (f : ℕ → A) → map g (tabulated a n f) ≡ tabulated a n (λ x. g (f x))
+unfolding tabulated
+tabulated-map g a zero f = refl
+tabulated-map {A} {B} g a (suc n) f = ap (λ (l : List B). g (f a) ∷ l) (tabulated-map g (suc a) n f)
 
 -- a file buffer and the bytes it holds
 pub inFile-tabulated : (a n : ℕ) (f : ℕ → ℕ) (x : ℕ) → a ≤ x → x < a + n → inFile a (tabulated a n f) x ≡ f x

@@ -6,6 +6,7 @@ pub mod Steps
 pub mod Loops
 pub mod Filling
 pub mod Rows
+pub mod Flats
 pub mod Marks
 pub mod Turns
 pub mod Owning

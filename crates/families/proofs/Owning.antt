@@ -19,7 +19,7 @@ use Rattle.families.specs.Forest.{Forest, has, inner, WF}
 use Rattle.families.specs.Decoded.{elementOf, forestAt, familyAt, rowOf, treeOf, selections, Layout·ok}
 use Rattle.families.specs.Owners.{times, firstOf, owner, mark, painted}
 use Rattle.families.proofs.Marks.{painted-is}
-use Rattle.families.proofs.Rows.{row-tree}
+use Rattle.families.proofs.Rows.{row-element}
 use Rattle.families.proofs.Turns.{inner-has}
 
 -- ---- the three kinds of entry: t elements have the offset, f is the first of the n elements that has it, and o is the entry
@@ -170,7 +170,7 @@ module _ {levels : ℕ} {t : Layout} {m e : ℕ} {table numbers : List ℕ} (G :
   read = let el = elementOf t e in forestAt levels (familyAt numbers) (el .first) (el .tops)
 
   read-is : read ≡ treeOf levels t e
-  read-is = rw row (row-tree levels (t .family) _ _)
+  read-is = row-element levels t e numbers row
 
   pub going-asks : let el = elementOf t e in
       (0 < length table) × WF 0 (length table - 1) (forestAt levels (familyAt numbers) (el .first) (el .tops))

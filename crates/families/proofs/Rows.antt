@@ -1,13 +1,17 @@
 -- The families' numbers in a row look up as the array does. Assumes nothing.
-use mathlib.Core.Path.{_≡_, refl, sym, ap, _∙_}
+use mathlib.Core.Path.{fun-ext, _≡_, refl, sym, ap, _∙_}
 use mathlib.Core.List.{List, [], _∷_, _++_, map, append-nil, append-assoc}
 use Prim.Native.Nat.{ℕ, zero, suc, _+_, _*_, _≤_, _<_}
+use native.Mathlib.Nat.{zero-add}
 use native.Mathlib.Numerals.{add-one, unary-clauses}
 use native.Mathlib.Omega.{arith}
-use lib.ListN.{length, set, take, drop, length-map, length-append, length-drop, drop-of-length-le}
-use lib.Seq.{sets-eq, length-take-le, take-suc, take-all, take-at, drop-at, drop-drop}
+use lib.ListN.{length, replicate, set, take, drop, length-map, length-append, length-drop, length-set, drop-of-length-le}
+use lib.Seq.{sets-eq, length-take-le, take-suc, take-suc-set, take-all, take-at, drop-at, drop-drop}
+use Rattle.counting.specs.Gather.{tabulated}
+use Rattle.counting.proofs.Gathers.{tabulated-more, tabulated-list}
 use Rattle.families.specs.declared.Family.{Family}
-use Rattle.families.specs.Decoded.{familyIn, forestAt, rowOf, familyAt}
+use Rattle.families.specs.declared.Layout.{Layout}
+use Rattle.families.specs.Decoded.{noFamily, familyIn, forestAt, elementOf, treeOf, rowOf, familyAt}
 
 -- ---- how long the row is
 pub length-row : (fams : List Family) → length (rowOf fams) ≡ 6 * length fams
@@ -22,9 +26,17 @@ row-at [] i = refl
 row-at (f ∷ fams) zero = refl
 row-at (f ∷ fams) (suc i) = simp unary-clauses (simp unary-clauses at (row-at fams i))
 
+-- the families of a row, all together
+pub row-back : (fams : List Family) → tabulated 0 (length fams) (familyAt (rowOf fams)) ≡ fams
+row-back fams = ap (tabulated 0 (length fams)) (fun-ext (row-at fams)) ∙ tabulated-list fams noFamily
+
 -- ---- and so do the trees
 pub row-tree : (levels : ℕ) (fams : List Family) (i k : ℕ) → forestAt levels (familyAt (rowOf fams)) i k ≡ forestAt levels (familyIn fams) i k
 row-tree levels fams i k = ap (λ (look : ℕ → Family). forestAt levels look i k) (λ d x. row-at fams x d)
+
+pub row-element : (levels : ℕ) (t : Layout) (e : ℕ) (numbers : List ℕ) → numbers ≡ rowOf (t .family)
+    → forestAt levels (familyAt numbers) (elementOf t e .first) (elementOf t e .tops) ≡ treeOf levels t e
+row-element levels t e numbers row = rw row (row-tree levels (t .family) _ _)
 
 -- ---- `put_family`: six stores are the six numbers
 pub six-stored : (f : Family) (six : List ℕ) → length six ≡ 6
@@ -33,8 +45,14 @@ unfolding rowOf
 six-stored f six e =
     sets-eq (f .children ∷ f .span ∷ f .l ∷ f .r ∷ f .s ∷ f .n ∷ []) six 0 (omega arith) ∙ rw (drop-of-length-le six {i = 6} (omega arith)) refl
 
+-- ---- the row of no family
+pub row-none : (n : ℕ) → rowOf (replicate n noFamily) ≡ replicate (6 * n) 0
+unfolding rowOf
+row-none zero = refl
+row-none (suc n) = let e : 6 * suc n ≡ suc (suc (suc (suc (suc (suc (6 * n)))))) = omega arith in rw (e, row-none n) refl
+
 -- ---- the loop of `lay_out`: the families below i stand in front, and the rest is as it was
-row-append : (gs hs : List Family) → rowOf (gs ++ hs) ≡ rowOf gs ++ rowOf hs
+pub row-append : (gs hs : List Family) → rowOf (gs ++ hs) ≡ rowOf gs ++ rowOf hs
 unfolding rowOf
 row-append [] hs = refl
 row-append (f ∷ gs) hs = ap (λ (l : List ℕ). f .children ∷ f .span ∷ f .l ∷ f .r ∷ f .s ∷ f .n ∷ l) (row-append gs hs)
@@ -78,6 +96,28 @@ module _ {fams : List Family} {old numbers : List ℕ} {i : ℕ} (L : Laid fams 
 
   pub laid-all : length fams ≤ i → numbers ≡ rowOf fams
   laid-all h = L .is ∙ rw (take-all i fams h, drop-of-length-le old {i = 6 * i} (omega (arith, L .room))) (append-nil (rowOf fams))
+
+-- ---- the loop of `taken_up`: the array's first i families are the row's
+pub record Taken (row : List ℕ) (n : ℕ) (fams : List Family) (i : ℕ) : Type 0 where
+  pub long : length fams ≡ n
+  pub upto : i ≤ n
+  pub is : take i fams ≡ tabulated 0 i (familyAt row)
+
+pub taken-none : (row : List ℕ) (n : ℕ) (fams : List Family) → length fams ≡ n → Taken row n fams 0
+unfolding tabulated
+taken-none row n fams e = record { long = e; upto = omega arith; is = refl }
+
+pub taken-next : {row : List ℕ} {n : ℕ} {fams : List Family} {i : ℕ} (f : Family) → Taken row n fams i → i < n → f ≡ familyAt row i → Taken row n (set fams i f) (i + 1)
+taken-next {row} {n} {fams} {i} f T h e = record {
+  long = length-set fams i f ∙ T .long;
+  upto = omega arith;
+  is = rw (add-one i, take-suc-set fams i f (omega (arith, T .long)), tabulated-more 0 i (familyAt row), T .is, e, zero-add i) refl;
+}
+
+pub taken-all : {row : List ℕ} {n : ℕ} {fams : List Family} {i : ℕ} → Taken row n fams i → n ≤ i → fams ≡ tabulated 0 n (familyAt row)
+taken-all {row} {n} {fams} {i} T h =
+    let e : i ≡ n = omega (arith, T .upto) in
+    sym (take-all i fams (omega (arith, T .long))) ∙ T .is ∙ ap (λ (k : ℕ). tabulated 0 k (familyAt row)) e
 
 -- ---- the length of an array of structs, as the record of its range has it
 pub mapped-long : {X Y : Type 0} (f : X → Y) (l : List X) (n : ℕ) → length (map f l) ≡ n → length l ≡ n

@@ -23,9 +23,16 @@ FitsIn bound f = Fits 0 bound (f .l) (f .r) (f .s) (f .n)
 abbrev pub Nested : Family → (kids : Forest) → Type 0
 Nested f kids = FitsIn (2 ^ 32 - 1) f × WF 0 (f .r - f .l) kids
 
--- family i of an array; past its end a family with no segment, which no sheet rule admits
+-- what unused room holds: a family with no segment, which no sheet rule admits, and an element with no family
+abbrev pub noFamily : Family
+noFamily = record { l = 0; r = 0; s = 0; n = 0; children = 0; span = 0 }
+
+abbrev pub noElement : Element
+noElement = record { first = 0; tops = 0; span = 0 }
+
+-- family i of an array, and no family past its end
 abbrev pub familyIn : List Family → ℕ → Family
-familyIn families i = getD families i (record { l = 0; r = 0; s = 0; n = 0; children = 0; span = 0 })
+familyIn families i = getD families i noFamily
 
 -- k siblings, the first at i: a family's children follow it at once, and its next sibling stands `span` further on.
 -- `look` finds a family by its index, and `below` gives the children
@@ -44,12 +51,15 @@ unfoldable pub forestAt : (levels : ℕ) (look : ℕ → Family) → ℕ → ℕ
 forestAt zero look i k = tooDeep k
 forestAt (suc levels) look i k = siblings (forestAt levels look) look i k
 
--- element e of a layout, its tree, and what each element selects of the pattern
+-- element e of a layout and its tree, the trees of all elements, and what each selects of the pattern
 abbrev pub elementOf : Layout → ℕ → Element
-elementOf t e = getD (t .element) e (record { first = 0; tops = 0; span = 0 })
+elementOf t e = getD (t .element) e noElement
 
 abbrev pub treeOf : (levels : ℕ) → Layout → ℕ → Forest
 treeOf levels t e = forestAt levels (familyIn (t .family)) (elementOf t e .first) (elementOf t e .tops)
+
+unfoldable pub treesOf : (levels : ℕ) → Layout → List Forest
+treesOf levels t = tabulated 0 (t .elements) (treeOf levels t)
 
 unfoldable pub selections : (levels : ℕ) → Layout → List (ℕ → Bool)
 selections levels t = tabulated 0 (t .elements) (λ e. has (treeOf levels t e))

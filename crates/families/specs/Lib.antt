@@ -1,3 +1,4 @@
 pub mod Forest
 pub mod Decoded
+pub mod Flat
 pub mod Owners

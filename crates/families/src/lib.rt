@@ -9,6 +9,8 @@ mod siblings;
 
 pub use painting::owners;
 pub use row::lay_out;
+pub use row::put_family;
+pub use row::taken_up;
 pub use siblings::inverse;
 pub use siblings::rank;
 pub use siblings::selects;

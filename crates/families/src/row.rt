@@ -3,6 +3,7 @@ ghost use mathlib.Core.Path.{_≡_};
 ghost use mathlib.Core.List.{[], _∷_};
 ghost use Prim.Native.Nat.{_+_, _*_, _^_, _<_};
 ghost use lib.ListN.{length};
+ghost use Rattle.counting.specs.Gather.{tabulated};
 ghost use Rattle.families.specs.Decoded.{familyAt, rowOf};
 use crate::Family;
 use crate::Layout;
@@ -20,6 +21,28 @@ pub fn lay_out(layout: Layout, numbers: &mut [u32])
         put_family(f, &mut numbers[from..to]);
         i += 1;
     }
+}
+
+// The families of a row, back in an array.
+pub fn taken_up(numbers: &[u32]) -> [Family; 256]
+    requires { ⌜ length (now numbers) ≡ 1536 ⌝ }
+    ensures { λ r. ⌜ r ≡ tabulated 0 256 (familyAt (now (numbers .entry))) ⌝ }
+{
+    let none = Family {
+        l: 0,
+        r: 0,
+        s: 0,
+        n: 0,
+        children: 0,
+        span: 0,
+    };
+    let mut families = [none; 256];
+    let mut at: usize = 0;
+    while at < 256 {
+        families[at] = family_at(numbers, at);
+        at += 1;
+    }
+    families
 }
 
 // Writes a family's numbers into a part of the row that has room for them alone.
