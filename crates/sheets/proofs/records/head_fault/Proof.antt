@@ -1,0 +1,60 @@
+-- `head_fault` meets its contract. Assumes nothing.
+use native.Mathlib.Omega.{arith}
+use mathlib.Core.Path.{_∙_}
+use Rattle.sheets.proofs.Verdicts.{head-short, head-kind, head-length, head-cut, head-good}
+use borrow.Author.Needs.{needs}
+use Rattle.sheets.proofs.records.head_fault.Statement.{statement}
+use Rattle.sheets.proofs.records.head_fault.Tie as tie
+
+sub-left : tie.Need-sub-left
+sub-left c = search needs
+
+returns : tie.Need-returns
+returns c = head-short _ _ _ (omega arith)
+
+add-le16-at : tie.Need-add-le16-at
+add-le16-at c = search needs
+
+le16-at-requires : tie.Need-le16-at-requires
+le16-at-requires c κs = search needs
+
+returns-2 : tie.Need-returns-2
+returns-2 c = head-kind _ _ _ (omega arith) (λ e. c .if2 .taken (c .before .le16-at .ensures .0 ∙ e))
+
+length-of-requires : tie.Need-length-of-requires
+length-of-requires c κs = search needs
+
+le16-at-requires-2 : tie.Need-le16-at-requires-2
+le16-at-requires-2 c κs = search needs
+
+returns-3 : tie.Need-returns-3
+returns-3 c = head-length _ _ _ (omega arith) (cc) (λ e. c .if3 .taken (cc))
+
+cast-if4 : tie.Need-cast-if4
+cast-if4 c = search needs
+
+add-if4 : tie.Need-add-if4
+add-if4 c = search needs
+
+returns-4 : tie.Need-returns-4
+returns-4 c = head-cut _ _ _ (omega arith) (cc) (cc) (omega arith)
+
+returns-5 : tie.Need-returns-5
+returns-5 c = head-good _ _ _ (omega arith) (cc) (cc) (omega arith)
+
+pub head-fault-spec : {M : Type 1} → statement M
+head-fault-spec =
+    tie.close
+    (tie.spec
+    sub-left
+    returns
+    add-le16-at
+    le16-at-requires
+    returns-2
+    length-of-requires
+    le16-at-requires-2
+    returns-3
+    cast-if4
+    add-if4
+    returns-4
+    returns-5)
