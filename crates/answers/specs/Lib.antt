@@ -1,0 +1,3 @@
+pub mod Frames
+pub mod Lines
+pub mod Replies

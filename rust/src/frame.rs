@@ -1,0 +1,132 @@
+//! Frames and lines: how the program `answers` is asked, and what it prints.
+
+use crate::pattern::Pattern;
+use crate::refusal::Refusal;
+use crate::sheet;
+
+/// The calls by their number; only the first is there yet.
+pub const CHECK: u8 = 1;
+
+/// The most bytes that may follow a frame's first number.
+pub const MOST: usize = 65_532;
+/// Those of them that are no blob's: the call, four numbers and four lengths.
+const PLAIN: usize = 1 + 4 * 8 + 4 * 4;
+/// The longest sheet that a frame of one sheet holds.
+pub const LONGEST_SHEET: usize = MOST - PLAIN;
+
+/// The line for what is no frame.
+pub const BAD: &str = "bad frame";
+
+/// One call. What it does not use is 0 or empty.
+#[derive(Clone, Debug, PartialEq, Eq, Default)]
+pub struct Frame {
+    pub call: u8,
+    pub i: u64,
+    pub j: u64,
+    pub a: u64,
+    pub b: u64,
+    pub sheet1: Vec<u8>,
+    pub sheet2: Vec<u8>,
+    pub from: Vec<u8>,
+    pub into: Vec<u8>,
+}
+
+impl Frame {
+    pub fn check(sheet: Vec<u8>) -> Frame {
+        Frame { call: CHECK, sheet1: sheet, ..Frame::default() }
+    }
+
+    pub fn bytes(&self) -> Vec<u8> {
+        let blobs = [&self.sheet1, &self.sheet2, &self.from, &self.into];
+        let follow = PLAIN + blobs.iter().map(|blob| blob.len()).sum::<usize>();
+        assert!(follow <= MOST, "a frame of {follow} bytes");
+        let mut out = (follow as u32).to_le_bytes().to_vec();
+        out.push(self.call);
+        for number in [self.i, self.j, self.a, self.b] {
+            out.extend(number.to_le_bytes());
+        }
+        for blob in blobs {
+            out.extend((blob.len() as u32).to_le_bytes());
+            out.extend(blob);
+        }
+        out
+    }
+
+    /// The frame that stands at the front, and what follows it. Nothing where it is cut, too long or not filled by its parts.
+    pub fn read(bytes: &[u8]) -> Option<(Frame, &[u8])> {
+        let (follow, rest) = number(bytes, 4)?;
+        let follow = usize::try_from(follow).ok().filter(|follow| *follow <= MOST)?;
+        let (body, rest) = rest.split_at_checked(follow)?;
+        let (call, body) = number(body, 1)?;
+        let (i, body) = number(body, 8)?;
+        let (j, body) = number(body, 8)?;
+        let (a, body) = number(body, 8)?;
+        let (b, body) = number(body, 8)?;
+        let (sheet1, body) = blob(body)?;
+        let (sheet2, body) = blob(body)?;
+        let (from, body) = blob(body)?;
+        let (into, body) = blob(body)?;
+        let frame = Frame { call: call as u8, i, j, a, b, sheet1, sheet2, from, into };
+        body.is_empty().then_some((frame, rest))
+    }
+}
+
+fn number(bytes: &[u8], width: usize) -> Option<(u64, &[u8])> {
+    let (digits, rest) = bytes.split_at_checked(width)?;
+    Some((digits.iter().rev().fold(0, |sum, digit| sum << 8 | u64::from(*digit)), rest))
+}
+
+fn blob(bytes: &[u8]) -> Option<(Vec<u8>, &[u8])> {
+    let (length, rest) = number(bytes, 4)?;
+    let (blob, rest) = rest.split_at_checked(usize::try_from(length).ok()?)?;
+    Some((blob.to_vec(), rest))
+}
+
+/// What a line says. Number 0 is an accepted call; values that a call does not give are 0.
+#[derive(Clone, Debug, PartialEq, Eq, Default)]
+pub struct Answer {
+    pub number: u8,
+    pub sheet: u8,
+    pub place: u64,
+    pub flag: u8,
+    pub value: u64,
+    pub value2: u64,
+    /// The destination buffer after the call.
+    pub into: Vec<u8>,
+}
+
+impl Answer {
+    /// A refusal of the sheet named, with the destination as it was.
+    fn refused(refusal: Refusal, sheet: u8, frame: &Frame) -> Answer {
+        let Refusal { number, place, flag } = refusal;
+        Answer { number, sheet, place, flag, into: frame.into.clone(), ..Answer::default() }
+    }
+
+    pub fn line(&self) -> String {
+        let into = match self.into.as_slice() {
+            [] => String::from("-"),
+            bytes => bytes.iter().map(|byte| format!("{byte:02x}")).collect(),
+        };
+        format!("{} {} {} {} {} {} {into}", self.number, self.sheet, self.place, self.flag, self.value, self.value2)
+    }
+}
+
+/// The answer that 01 asks for.
+pub fn answer(frame: &Frame) -> Answer {
+    match frame.call {
+        CHECK => check(frame),
+        other => unreachable!("no frame of this program has the call {other}"),
+    }
+}
+
+fn check(frame: &Frame) -> Answer {
+    match sheet::read(&frame.sheet1) {
+        Err(refusal) => Answer::refused(refusal, 1, frame),
+        Ok(layout) => Answer {
+            value: Pattern::of(&layout).size() as u64,
+            value2: layout.elements.len() as u64,
+            into: frame.into.clone(),
+            ..Answer::default()
+        },
+    }
+}

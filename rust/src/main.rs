@@ -1,0 +1,79 @@
+//! Makes frames with the lines that 01 asks for, and compares lines with them.
+
+use comparison::frame::{answer, Frame, BAD};
+use comparison::{generate, spelled};
+use std::error::Error;
+use std::fs;
+use std::process::ExitCode;
+
+const USAGE: &str = "comparison frames SEED COUNT FRAMES-FILE LINES-FILE
+    writes the frames of a seed, COUNT of them by chance, and the line expected for each
+comparison kept FRAMES-FILE LINES-FILE
+    writes those that are kept beside the program `answers`
+comparison lines FRAMES-FILE EXPECTED-FILE PRINTED-FILE
+    compares the lines that were printed with those expected, and spells the first difference out";
+
+fn main() -> ExitCode {
+    let words: Vec<String> = std::env::args().skip(1).collect();
+    let words: Vec<&str> = words.iter().map(String::as_str).collect();
+    let done = match words[..] {
+        ["frames", seed, count, frames, lines] => parsed(seed, count).and_then(|of| write_frames(of, frames, lines)),
+        ["kept", frames, lines] => write_frames(generate::KEPT, frames, lines),
+        ["lines", frames, expected, printed] => compare(frames, expected, printed),
+        _ => Err(USAGE.into()),
+    };
+    match done {
+        Ok(()) => ExitCode::SUCCESS,
+        Err(error) => {
+            eprintln!("{error}");
+            ExitCode::FAILURE
+        }
+    }
+}
+
+type Done<T> = Result<T, Box<dyn Error>>;
+
+fn parsed(seed: &str, count: &str) -> Done<(u64, usize)> {
+    Ok((seed.parse()?, count.parse()?))
+}
+
+fn write_frames((seed, count): (u64, usize), frames_file: &str, lines_file: &str) -> Done<()> {
+    let mut bytes = Vec::new();
+    let mut lines = String::new();
+    for frame in generate::frames(seed, count) {
+        bytes.extend(frame.bytes());
+        lines += &answer(&frame).line();
+        lines.push('\n');
+    }
+    bytes.extend(generate::bad_end(seed));
+    lines += BAD;
+    lines.push('\n');
+    fs::write(frames_file, bytes)?;
+    fs::write(lines_file, lines)?;
+    Ok(())
+}
+
+fn compare(frames_file: &str, expected_file: &str, printed_file: &str) -> Done<()> {
+    let frames = fs::read(frames_file)?;
+    let expected = fs::read_to_string(expected_file)?;
+    let printed = fs::read(printed_file)?;
+    let printed = String::from_utf8_lossy(&printed);
+    // Split and not `lines`: a newline that is missing at the end is a difference too.
+    let (expected, printed): (Vec<&str>, Vec<&str>) = (expected.split('\n').collect(), printed.split('\n').collect());
+    let mut rest = frames.as_slice();
+    for (index, line) in expected.iter().enumerate() {
+        let got = printed.get(index).copied();
+        let frame = Frame::read(rest);
+        if got != Some(line) {
+            let asked = frame.map_or(String::from("bytes that are no frame\n"), |(frame, _)| spelled::frame(&frame));
+            let got = got.map_or(String::from("nothing: the lines end"), spelled::line);
+            return Err(format!("frame {index}: {asked}  expected {}\n  printed  {got}", spelled::line(line)).into());
+        }
+        rest = frame.map_or(rest, |(_, rest)| rest);
+    }
+    if printed.len() > expected.len() {
+        return Err(format!("{} lines more than there are frames", printed.len() - expected.len()).into());
+    }
+    println!("{} lines compared, no difference", expected.len() - 1);
+    Ok(())
+}
