@@ -1,0 +1,4 @@
+pub mod Mapped
+pub mod Chosen
+pub mod BytesOf
+pub mod Sharing
