@@ -1,7 +1,7 @@
 -- The layout of a list of trees is read back as those trees, and meets what a layout must. Assumes nothing.
 use mathlib.Core.Path.{_≡_, refl, sym, ap, ap₂, _∙_}
 use mathlib.Core.List.{List, [], _∷_, _++_, map, append-assoc}
-use Prim.Native.Nat.{ℕ, zero, suc, _+_, _-_, _≤_, _<_}
+use Prim.Native.Nat.{ℕ, zero, suc, _+_, _-_, _^_, _≤_, _<_}
 use native.Mathlib.Nat.{zero-add}
 use native.Mathlib.Omega.{arith}
 use lib.ListN.{length, getD, replicate, length-append}
@@ -11,10 +11,11 @@ use Rattle.counting.proofs.Gathers.{length-tabulated, getD-tabulated, tabulated
 use Rattle.families.specs.declared.Family.{Family}
 use Rattle.families.specs.declared.Element.{Element}
 use Rattle.families.specs.declared.Layout.{Layout}
-use Rattle.families.specs.Forest.{Forest, nil, node, has, WF}
-use Rattle.families.specs.Decoded.{noFamily, noElement, familyIn, siblings, forestAt, elementOf, treeOf, treesOf, selections, Layout·ok}
+use Rattle.families.specs.Forest.{Forest, nil, node, has, sizeOf, WF, Sound}
+use Rattle.families.specs.Decoded.{noFamily, noElement, familyIn, siblings, forestAt, elementOf, treeOf, treesOf, selections, Layout·ok, rowOf, familyAt}
 use Rattle.families.specs.Flat.{All, width, total, depth, flat, totals, flats, elementsAt, layoutOf}
-use Rattle.families.proofs.Forests.{wf-wider}
+use Rattle.families.proofs.Forests.{wf-wider, size-le}
+use Rattle.families.proofs.Rows.{row-element}
 use Rattle.families.proofs.Steps.{none-left}
 
 -- ---- how long the lists are
@@ -115,6 +116,18 @@ tops-some : (levels : ℕ) (look : ℕ → Family) (i k : ℕ) → 1 ≤ width (
 unfolding width
 tops-some levels look i zero h = absurd (omega (arith, rw (none-left levels look i 0 refl) at h))
 tops-some levels look i (suc k) h = omega arith
+
+-- ---- what `size` is asked of an element's families in a row, and what it answers
+module _ (levels bound : ℕ) (t : Layout) (ok : Layout·ok levels bound t) (e : ℕ) (h : e < t .elements) (numbers : List ℕ) (row : numbers ≡ rowOf (t .family)) where
+  pub element-sound : bound < 2 ^ 32 → Sound (forestAt levels (familyAt numbers) (elementOf t e .first) (elementOf t e .tops))
+  element-sound small = rw (row-element levels t e numbers row) (wf-wider (treeOf levels t e) (omega arith) (omega arith) (ok .ruled e h))
+
+  module _ (size : ℕ) (is : size ≡ sizeOf (forestAt levels (familyAt numbers) (elementOf t e .first) (elementOf t e .tops))) where
+    pub element-size : size ≡ sizeOf (treeOf levels t e)
+    element-size = is ∙ ap sizeOf (row-element levels t e numbers row)
+
+    pub element-small : size ≤ bound + 1
+    element-small = omega (arith, element-size, size-le 0 bound (treeOf levels t e) (ok .ruled e h))
 
 pub ok-trees : (levels bound : ℕ) (t : Layout) → t .elements ≤ 16 → All (Element·ok bound) (treesOf levels t) → Layout·ok levels bound t
 unfolding treesOf

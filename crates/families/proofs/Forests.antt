@@ -7,7 +7,7 @@ use native.Mathlib.Nat.{div-lt-iff-lt-mul, div-add-mod', mod-lt, mul-le-mul-righ
 use native.Mathlib.Omega.{arith}
 use Rattle.counting.specs.Count.{countBelow, nth}
 use Rattle.counting.proofs.Cases.{lt-or-le}
-use Rattle.counting.proofs.Counts.{count-none, count-all, count-or, count-stop, count-le}
+use Rattle.counting.proofs.Counts.{count-none, count-all, count-or, count-stop, count-le, count-mono}
 use Rattle.counting.proofs.Nths.{Found, nth-is, nth-found}
 use Rattle.families.specs.Forest.{Forest, nil, node, isNil, inSegments, has, inner, lastByte, endOf, sizeOf, Fits, WF}
 use Rattle.families.proofs.Division.{segments-before, segments-after, segments-at, count-at, segments-full}
@@ -21,6 +21,16 @@ wf-wider (node l r s n kids rest) p q w = (
   record { some = w .0 .some; forward = w .0 .forward; stride = w .0 .stride; after = omega (arith, w .0 .after); inside = omega (arith, w .0 .inside) },
   w .1,
   wf-wider rest (omega arith) q (w .2),
+)
+
+-- .. and with a narrower one, where the families end by it
+pub wf-ended : (F : Forest) (from bound b : ℕ) → WF from bound F → endOf F ≤ suc b → WF from b F
+unfolding WF endOf
+wf-ended nil from bound b w h = tt
+wf-ended (node l r s n kids rest) from bound b w h = (
+  record { some = w .0 .some; forward = w .0 .forward; stride = w .0 .stride; after = w .0 .after; inside = omega arith },
+  w .1,
+  wf-ended rest _ bound b (w .2) (omega arith),
 )
 
 -- the rules of a family, of its children and of its younger siblings
@@ -58,6 +68,10 @@ has-after a b F w y h = has-past F y (omega (arith, end-le a b F w))
 pub size-at : (F : Forest) (m : ℕ) → endOf F ≤ m → countBelow (has F) m ≡ sizeOf F
 unfolding sizeOf
 size-at F m h = count-stop (has F) (endOf F) m h (has-past F)
+
+-- no count is more
+pub count-most : (F : Forest) (n : ℕ) → countBelow (has F) n ≤ sizeOf F
+count-most F n = omega (arith, count-mono (has F) n (max n (endOf F)) (omega arith), size-at F (max n (endOf F)) (omega arith))
 
 pub size-le : (a b : ℕ) (F : Forest) → WF a b F → sizeOf F ≤ b + 1
 unfolding sizeOf

@@ -1,5 +1,5 @@
 -- The selection of an element of a layout: what it has, and that an accepted sheet gives what the code asks of it. Assumes nothing.
-use mathlib.Core.Path.{fun-ext, _≡_, refl, sym, ap, _∙_}
+use mathlib.Core.Path.{fun-ext, _≡_, refl, sym, _∙_}
 use mathlib.Core.Bool.{Bool, true, false}
 use mathlib.Core.List.{List}
 use mathlib.Core.Logic.{⊎-elim}
@@ -14,9 +14,10 @@ use Rattle.families.specs.declared.Layout.{Layout}
 use Rattle.families.specs.Forest.{Forest, has, endOf, sizeOf, Sound}
 use Rattle.families.specs.Decoded.{familyAt, familyIn, forestAt, elementOf, treeOf, selections, rowOf, Layout·ok}
 use Rattle.families.specs.Owners.{times}
-use Rattle.families.proofs.Forests.{wf-wider, size-at, size-le, size-some}
+use Rattle.families.proofs.Forests.{wf-wider, size-at, size-some}
 use Rattle.families.proofs.Steps.{step}
 use Rattle.families.proofs.Rows.{row-element}
+use Rattle.families.proofs.Flats.{element-sound, element-size, element-small}
 use Rattle.sheets.specs.declared.Reading.{Reading}
 use Rattle.sheets.proofs.Accepted.{Accepted}
 use Rattle.maps.specs.declared.Selection.{Selection}
@@ -62,21 +63,18 @@ module _ (t : Layout) (e : ℕ) where
     -- ---- `selection_of`: what it asks of `families`, and what it makes of the answer
     module _ (numbers : List ℕ) (row : numbers ≡ rowOf (t .family)) where
       pub chosen-sound : Sound (forestAt 4 (familyAt numbers) (elementOf t e .first) (elementOf t e .tops))
-      chosen-sound = rw (row-element 4 t e numbers row) tree-sound
+      chosen-sound = element-sound 4 65535 t ok e h numbers row (omega arith)
 
       module _ (selected : ℕ) (is : selected ≡ sizeOf (forestAt 4 (familyAt numbers) (elementOf t e .first) (elementOf t e .tops))) where
-        selected-is : selected ≡ sizeOf (treeOf 4 t e)
-        selected-is = is ∙ ap sizeOf (row-element 4 t e numbers row)
-
         pub chosen-small : selected < 2 ^ 32
-        chosen-small = omega (arith, selected-is, size-le 0 65535 (treeOf 4 t e) (ok .ruled e h))
+        chosen-small = omega (arith, element-small 4 65535 t ok e h numbers row selected is)
 
         pub chosen-is : (size : ℕ)
             → _≡_ {A = Selection}
             (record { from = t .displacement; period = size; levels = 4; first = elementOf t e .first; tops = elementOf t e .tops; size = selected })
             (selectionOf t size e)
         unfolding selectionOf
-        chosen-is size = rw selected-is refl
+        chosen-is size = rw (element-size 4 65535 t ok e h numbers row selected is) refl
 
 -- ---- THE ELEMENTS OF AN ACCEPTED SHEET are selections that the code takes
 module _ (r : Reading) (A : Accepted r) (e : ℕ) (h : e < r .layout .elements) where

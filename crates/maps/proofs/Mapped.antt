@@ -1,7 +1,7 @@
 -- What the code asks and answers: a file offset is some whole periods and a place in one, and so is a byte of the subfile. Assumes nothing.
 use mathlib.Core.Path.{_≡_, sym, ap, _∙_}
 use mathlib.Core.Bool.{Bool, false}
-use mathlib.Core.List.{List, [], _∷_}
+use mathlib.Core.List.{List}
 use mathlib.Core.Logic.{⊎-elim}
 use Prim.Native.Nat.{ℕ, _+_, _-_, _*_, _/_, _%_, _^_, _≤_, _<_}
 use native.Mathlib.Nat.{mod-lt, div-le-self, div-add-mod', add-sub-cancel-left, mul-le-mul-left}
@@ -13,16 +13,10 @@ use Rattle.counting.proofs.Cases.{lt-or-le}
 use Rattle.counting.proofs.Counts.{count-none, count-le, count-mono}
 use Rattle.counting.proofs.Nths.{Found, nth-found}
 use Rattle.counting.proofs.Periods.{owns-none, owns-at, rank-owns}
-use Rattle.families.specs.Forest.{Forest, has, endOf, sizeOf}
-use Rattle.sheets.specs.Pattern.{sizes}
-use Rattle.sheets.proofs.Tiling.{together, together-le}
+use Rattle.families.specs.Forest.{has, endOf, sizeOf}
+use Rattle.families.proofs.Forests.{count-most}
 use Rattle.maps.specs.declared.Selection.{Selection}
 use Rattle.maps.specs.Selected.{familiesOf, belongs, Byte, Selection·ok}
-
--- below any number families select no more than their size
-within-size : (F : Forest) (n : ℕ) → countBelow (has F) n ≤ sizeOf F
-unfolding together sizes
-within-size F n = omega (arith, together-le (F ∷ []) n)
 
 module _ {s : Selection} {row : List ℕ} (ok : Selection·ok s row) where
   -- ---- there is a period, and 32 bits hold a place in it
@@ -58,7 +52,7 @@ module _ {s : Selection} {row : List ℕ} (ok : Selection·ok s row) where
   -- ---- byte y of the selection
   module _ (y : ℕ) where
     pub rest-inside : y % s .size < sizeOf (familiesOf s row)
-    rest-inside = omega (arith, mod-lt y (ok .some), ok .size, within-size (familiesOf s row) (s .period))
+    rest-inside = omega (arith, mod-lt y (ok .some), ok .size, count-most (familiesOf s row) (s .period))
 
     -- NOTHING WRAPS: 32 bits hold the displacement and the place, so their sum with the whole periods fits 64 bits
     pub turns-small : y < 2 ^ 40 → y / s .size * s .period < 2 ^ 63

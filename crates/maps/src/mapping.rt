@@ -1,6 +1,6 @@
 // Mapping: whole periods by division, and the place in one by the families.
 ghost use mathlib.Core.Path.{_≡_};
-ghost use Prim.Native.Nat.{_^_, _≤_, _<_};
+ghost use Prim.Native.Nat.{_^_, _<_};
 ghost use Rattle.counting.specs.Count.{countBelow};
 ghost use Rattle.families.specs.Decoded.{rowOf, Layout·ok};
 ghost use Rattle.maps.specs.Selected.{belongs, Byte, Selection·ok, selectionOf};

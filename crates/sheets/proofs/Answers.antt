@@ -10,10 +10,10 @@ use borrow.Author.Tests.{lt-ltb, le-ltb}
 use Rattle.counting.specs.Gather.{tabulated}
 use Rattle.families.specs.declared.Family.{Family}
 use Rattle.families.specs.declared.Layout.{Layout}
-use Rattle.families.specs.Forest.{Forest, nil, node, endOf, WF}
+use Rattle.families.specs.Forest.{Forest, nil, node, endOf}
 use Rattle.families.specs.Decoded.{noElement, noFamily, familyAt, rowOf, treesOf, Layout·ok}
 use Rattle.families.specs.Flat.{width, totals, flats, elementsAt, layoutOf, All}
-use Rattle.families.proofs.Forests.{end-le}
+use Rattle.families.proofs.Forests.{wf-ended, end-le}
 use Rattle.families.proofs.Rows.{row-none, row-back, row-append}
 use Rattle.families.proofs.Flats.{Element·ok, length-flats, length-elements, trees-back, layout-ok}
 use Rattle.sheets.specs.declared.elements.Progress.{Progress}
@@ -73,15 +73,6 @@ module _ (Fs : List Forest) (few : length Fs ≤ 16) (room : totals Fs ≤ 256) 
 pub end-is : (Fs : List Forest) (p : Progress) → Progressed (got Fs) start p → p .end ≡ ends Fs
 unfolding Progressed start
 end-is Fs p e = ap (λ (q : Progress). q .end) e ∙ omega arith
-
-wf-ended : (F : Forest) (from bound b : ℕ) → WF from bound F → endOf F ≤ suc b → WF from b F
-unfolding WF endOf
-wf-ended nil from bound b w h = tt
-wf-ended (node l r s n kids rest) from bound b w h = (
-  record { some = w .0 .some; forward = w .0 .forward; stride = w .0 .stride; after = w .0 .after; inside = omega arith },
-  w .1,
-  wf-ended rest _ bound b (w .2) (omega arith),
-)
 
 each-ended : (Fs : List Forest) (b : ℕ) → All ElementRules Fs → ends Fs ≤ suc b → All (Element·ok b) Fs
 unfolding All ends

@@ -16,7 +16,7 @@ use Rattle.sheets.specs.Encode.{ElementRules}
 use Rattle.sheets.proofs.Faults.{no-fault, Headed, FamilyTaken, family-taken, element-taken, header-taken}
 
 -- ---- one step
-refused-not-got : {A B : Type 0} {k p : ℕ} {x : A} → refused k p ≡ got x → B
+pub refused-not-got : {A B : Type 0} {k p : ℕ} {x : A} → refused k p ≡ got x → B
 refused-not-got e = let z : _≡_ {A = ℕ} 0 1 = cc in absurd (omega arith)
 
 pub unless-got : {A : Type 0} (k p : ℕ) (r : Read A) {x : A} → unless k p r ≡ got x → (k ≡ 0) × (r ≡ got x)

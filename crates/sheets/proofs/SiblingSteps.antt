@@ -14,7 +14,7 @@ use Rattle.sheets.specs.Refusals.{Read, got, refused, unless, andThen}
 use Rattle.sheets.specs.Records.{familyRecord, lastOf, fault}
 use Rattle.sheets.specs.Sheet.{beside, forestFrom}
 use Rattle.sheets.specs.Steps.{stepOf, Written}
-use Rattle.sheets.proofs.Shapes.{nodeAt, unless-got, then-got, forest-shape}
+use Rattle.sheets.proofs.Shapes.{nodeAt, refused-not-got, unless-got, then-got, forest-shape}
 use Rattle.sheets.proofs.Numbered.{forest-numbered}
 use Rattle.sheets.proofs.Descent.{children, others, none-after, step, children-got, step-got}
 use Rattle.sheets.proofs.Lent.{rows-joined}
@@ -25,9 +25,7 @@ module _ (xs : List ℕ) (levels : ℕ) (m : Limits) (at : ℕ) where
   same-refusal : (number place left q : ℕ) (c : Read Forest) → unless q at (andThen c (others xs levels m 0 at)) ≡ refused number place
       → unless q at (andThen c (others xs levels m left at)) ≡ refused number place
   unfolding unless andThen
-  same-refusal number place left zero (got kids) e =
-      let z : _≡_ {A = Read Forest} (got (nodeAt xs at kids nil)) (refused number place) = sym (none-after xs levels m at kids) ∙ e in
-      let n : _≡_ {A = ℕ} 0 1 = cc in absurd (omega arith)
+  same-refusal number place left zero (got kids) e = refused-not-got (sym e ∙ none-after xs levels m at kids)
   same-refusal number place left zero (refused k p) e = e
   same-refusal number place left (suc q) c e = e
 

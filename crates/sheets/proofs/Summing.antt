@@ -1,5 +1,5 @@
 -- The loop of `pattern_size`: the elements' sizes, one after the other. Assumes nothing.
-use mathlib.Core.Path.{_≡_, refl, sym, ap, _∙_}
+use mathlib.Core.Path.{_≡_, refl, sym}
 use mathlib.Core.List.{List, [], _∷_, _++_}
 use Prim.Native.Nat.{ℕ, _+_, _*_, _≤_, _<_}
 use native.Mathlib.Nat.{zero-add}
@@ -10,8 +10,7 @@ use Rattle.counting.proofs.Gathers.{tabulated-more}
 use Rattle.families.specs.declared.Layout.{Layout}
 use Rattle.families.specs.Forest.{Forest, sizeOf, Sound}
 use Rattle.families.specs.Decoded.{elementOf, treeOf, treesOf, forestAt, familyAt, rowOf, Layout·ok}
-use Rattle.families.proofs.Forests.{wf-wider, size-le}
-use Rattle.families.proofs.Rows.{row-element}
+use Rattle.families.proofs.Flats.{element-sound, element-size, element-small}
 use Rattle.sheets.specs.Pattern.{sizes}
 
 -- one element more
@@ -38,20 +37,17 @@ module _ {t : Layout} {e sum : ℕ} (S : Summed t e sum) where
 
   module _ (h : e < t .elements) (numbers : List ℕ) (row : numbers ≡ rowOf (t .family)) where
     pub summed-asks : Sound (forestAt 4 (familyAt numbers) (elementOf t e .first) (elementOf t e .tops))
-    summed-asks = rw (row-element 4 t e numbers row) (wf-wider (treeOf 4 t e) (omega arith) (omega arith) (S .ok .ruled e h))
+    summed-asks = element-sound 4 65535 t (S .ok) e h numbers row (omega arith)
 
     module _ (size : ℕ) (z : size ≡ sizeOf (forestAt 4 (familyAt numbers) (elementOf t e .first) (elementOf t e .tops))) where
-      size-is : size ≡ sizeOf (treeOf 4 t e)
-      size-is = z ∙ ap sizeOf (row-element 4 t e numbers row)
-
       pub size-small : size ≤ 65536
-      size-small = omega (arith, size-is, size-le 0 65535 (treeOf 4 t e) (S .ok .ruled e h))
+      size-small = element-small 4 65535 t (S .ok) e h numbers row size z
 
       pub summed-next : Summed t (e + 1) (sum + size)
       summed-next = record {
         ok = S .ok;
         upto = omega arith;
-        is = rw (S .is, size-is, add-one e, tabulated-more 0 e (treeOf 4 t), zero-add e) (sym (sizes-more (tabulated 0 e (treeOf 4 t)) (treeOf 4 t e)));
+        is = rw (S .is, element-size 4 65535 t (S .ok) e h numbers row size z, add-one e, tabulated-more 0 e (treeOf 4 t), zero-add e) (sym (sizes-more (tabulated 0 e (treeOf 4 t)) (treeOf 4 t e)));
         small = omega (arith, S .small, size-small);
       }
 

@@ -3,7 +3,7 @@ use mathlib.Core.Path.{_≡_, refl, ap₂, _∙_}
 use mathlib.Core.Bool.{Bool}
 use mathlib.Core.List.{List, [], _∷_, map}
 use mathlib.Core.Logic.{⊎-elim}
-use Prim.Native.Nat.{ℕ, zero, suc, _+_, _-_, _%_, _≤_, _<_, max}
+use Prim.Native.Nat.{ℕ, zero, suc, _+_, _-_, _%_, _≤_, _<_}
 use native.Mathlib.Nat.{mod-lt}
 use native.Mathlib.Omega.{arith}
 use lib.ListN.{length}
@@ -13,10 +13,10 @@ use Rattle.counting.specs.Periodic.{owns}
 use Rattle.counting.proofs.Cases.{lt-or-le}
 use Rattle.counting.proofs.Counts.{count-zero, count-suc, count-mono}
 use Rattle.counting.proofs.Periods.{owns-none}
-use Rattle.families.specs.Forest.{Forest, nil, node, has, endOf, sizeOf, WF}
+use Rattle.families.specs.Forest.{Forest, nil, node, has, WF}
 use Rattle.families.specs.Flat.{width, depth, All}
 use Rattle.families.specs.Owners.{times}
-use Rattle.families.proofs.Forests.{end-le, size-at, size-some}
+use Rattle.families.proofs.Forests.{end-le, size-at, count-most, size-some}
 use Rattle.families.proofs.Flats.{Shallow, Element·ok, all-if}
 use Rattle.sheets.specs.Pattern.{sizes, inElements, Tiled}
 use Rattle.sheets.specs.Encode.{ElementRules}
@@ -43,13 +43,10 @@ together-mono [] m n h = omega arith
 together-mono (F ∷ Fs) m n h = omega (arith, count-mono (has F) m n h, together-mono Fs m n h)
 
 -- it is never more than the pattern's size, and past every element it is that
-size-most-of : (F : Forest) (n : ℕ) → countBelow (has F) n ≤ sizeOf F
-size-most-of F n = omega (arith, count-mono (has F) n (max n (endOf F)) (omega arith), size-at F (max n (endOf F)) (omega arith))
-
 pub together-le : (Fs : List Forest) (n : ℕ) → together Fs n ≤ sizes Fs
 unfolding together sizes
 together-le [] n = omega arith
-together-le (F ∷ Fs) n = omega (arith, size-most-of F n, together-le Fs n)
+together-le (F ∷ Fs) n = omega (arith, count-most F n, together-le Fs n)
 
 pub together-all : (bound : ℕ) (Fs : List Forest) → All (WF 0 bound) Fs → (n : ℕ) → bound < n → together Fs n ≡ sizes Fs
 unfolding All together sizes
