@@ -4,6 +4,7 @@ pub mod Stretches
 pub mod Nths
 pub mod Periods
 pub mod Runs
+pub mod RunSteps
 pub mod RunCounts
 pub mod Gathers
 pub mod Scatters

@@ -1,14 +1,17 @@
 -- Counting by periods: whole ones, and the rest. Assumes nothing.
 use mathlib.Core.Path.{_≡_, refl, sym, ap, ap₂, _∙_}
-use mathlib.Core.Bool.{Bool, false, _&&_, not}
+use mathlib.Core.Bool.{Bool, false, _&&_, not, cond}
+use mathlib.Core.Logic.{⊎-elim}
 use Prim.Native.Nat.{ℕ, zero, suc, _+_, _-_, _*_, _/_, _%_, _≤_, _<_}
 use native.Mathlib.Nat.{zero-add, zero-mul, suc-mul, suc-add, div-add-mod', mod-lt, add-sub-cancel-left, add-mod-right}
 use native.Mathlib.Omega.{arith}
 use lib.Arith.{digits-mod}
-use borrow.Author.Tests.{le-leb, lt-leb}
+use lib.Dec.{ltb}
+use borrow.Author.Tests.{le-leb, lt-leb, lt-ltb, le-ltb}
 use Rattle.counting.specs.Count.{countBelow, countIn}
 use Rattle.counting.specs.Periodic.{owns, Periodic}
 use Rattle.counting.specs.Runs.{rises}
+use Rattle.counting.proofs.Cases.{lt-or-le}
 use Rattle.counting.proofs.Counts.{count-zero, count-ext, count-split, count-window, count-none}
 
 -- ---- p repeats g every s, n times
@@ -44,6 +47,16 @@ rises-periodic p d L per x h = ap₂ (λ (s t : Bool). not s && t) (per x h) (ap
 
 pub both-periodic : (p q : ℕ → Bool) (d L : ℕ) → Periodic p d L → Periodic q d L → Periodic (λ x. p x && q x) d L
 both-periodic p q d L hp hq x h = ap₂ (λ (s t : Bool). s && t) (hp x h) (hq x h)
+
+-- the place in a period, one further: the next, or the first of the next period
+pub place-next : (y P : ℕ) → 0 < P → (y + 1) % P ≡ cond (ltb (y % P + 1) P) (y % P + 1) 0
+place-next y P pos =
+    let inside : y + 1 ≡ y / P * P + (y % P + 1) = omega (arith, div-add-mod' y P) in
+    ⊎-elim
+    (λ l. rw (lt-ltb (y % P + 1) P l) (ap (λ (z : ℕ). z % P) inside ∙ digits-mod (y / P) l))
+    (λ l. rw (le-ltb (y % P + 1) P l)
+    (ap (λ (z : ℕ). z % P) (let around : y + 1 ≡ suc (y / P) * P + 0 = omega (arith, mod-lt y pos, suc-mul (y / P) P) in around) ∙ digits-mod (suc (y / P)) pos))
+    (lt-or-le (y % P + 1) P)
 
 -- ---- a periodic selection
 pub owns-periodic : (d P : ℕ) (q : ℕ → Bool) → Periodic (owns d P q) d P

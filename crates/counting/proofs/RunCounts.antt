@@ -9,11 +9,11 @@ use lib.Dec.{eqb}
 use lib.ListN.{length}
 use Rattle.counting.specs.Count.{bit, countIn}
 use Rattle.counting.specs.Periodic.{Periodic}
-use Rattle.counting.specs.Runs.{Run, glue, runsOf, total, rises, Spaced}
+use Rattle.counting.specs.Runs.{Run, glue, runsOf, total, rises}
 use Rattle.counting.proofs.Cases.{byTest}
 use Rattle.counting.proofs.Counts.{countIn-none, countIn-front}
 use Rattle.counting.proofs.Periods.{count-by-periods, rises-periodic}
-use Rattle.counting.proofs.Runs.{glue-cases, glue-apart, glue-glue, runs-spaced}
+use Rattle.counting.proofs.Runs.{glue-cases, glue-glue, glue-far, runs-spaced}
 
 -- ---- together they have as many numbers as pass
 total-glue : (s m : ℕ) (rs : List Run) → total (glue s m rs) ≡ m + total rs
@@ -38,11 +38,6 @@ length-glue s m t k (q ∷ rs) e = rw e (either (eqb (t + k) (q .0)))
     either true = refl
     either false = refl
 
-length-glue-far : (s m b e : ℕ) (rs : List Run) → s + m < b → Spaced 1 b e rs → length (glue s m rs) ≡ suc (length rs)
-unfolding glue Spaced
-length-glue-far s m b e [] l h = refl
-length-glue-far s m b e (q ∷ rs) l h = ap length (glue-apart s m q rs (λ d. omega (arith, h .0)))
-
 -- THE NUMBER OF RUNS: one where the window starts inside, and one for each place where p begins
 pub runs-number : (p : ℕ → Bool) (a n : ℕ) → length (runsOf p a (suc n)) ≡ bit (p a) + countIn (rises p) a n
 unfolding runsOf glue
@@ -55,7 +50,7 @@ runs-number p a (suc n) =
     (λ f. let g : length (glue (suc a) 1 rs) ≡ 1 + countIn (rises p) (suc a) n = rw f at ih in
     rw (e, f) (ap length (glue-glue a 1 (suc a) 1 rs (omega arith)) ∙ length-glue a (1 + 1) (suc a) 1 rs (omega arith) ∙ omega (arith, g)))
     (λ f. let g : length rs ≡ 0 + countIn (rises p) (suc a) n = rw f at ih in
-    rw (e, f) (length-glue-far a 1 (suc (suc a)) (suc (suc a) + n) rs (omega arith) (runs-spaced p (suc (suc a)) n) ∙ omega (arith, g))))
+    rw (e, f) (ap length (glue-far a 1 (suc (suc a)) (suc (suc a) + n) rs (omega arith) (runs-spaced p (suc (suc a)) n)) ∙ omega (arith, g))))
     (λ e. rw e (omega (arith, ih))))
 
 -- and by periods: whole ones, and the rest

@@ -147,6 +147,12 @@ glue-spaced s m b e (q ∷ rs) l j k h =
     (λ d. (omega arith, omega arith, omega (arith, h .2), subst (λ (z : ℕ). Spaced 1 z e rs) (omega arith) (h .3)))
     (λ d. (omega arith, l, omega arith, (omega (arith, h .0), h .1, h .2, h .3)))
 
+-- a run in front of runs that start past its end
+pub glue-far : (s m b e : ℕ) (rs : List Run) → s + m < b → Spaced 1 b e rs → glue s m rs ≡ (s, m) ∷ rs
+unfolding glue Spaced
+glue-far s m b e [] l h = refl
+glue-far s m b e (q ∷ rs) l h = glue-apart s m q rs (λ d. omega (arith, h .0))
+
 pub runs-spaced : (p : ℕ → Bool) (a n : ℕ) → Spaced 1 a (a + n) (runsOf p a n)
 unfolding Spaced runsOf
 runs-spaced p a zero = tt

@@ -2,7 +2,7 @@
 use mathlib.Core.Path.{_≡_, refl, sym, ap, ap₂, _∙_}
 use mathlib.Core.Bool.{Bool, true, false, cond}
 use mathlib.Core.Logic.{⊎-elim}
-use Prim.Native.Nat.{ℕ, zero, suc, _+_, _≤_, _<_}
+use Prim.Native.Nat.{ℕ, zero, suc, _+_, _-_, _≤_, _<_}
 use native.Mathlib.Nat.{add-zero, add-assoc, suc-add}
 use native.Mathlib.Omega.{arith}
 use Rattle.counting.specs.Count.{stretch}
@@ -49,6 +49,15 @@ stretch-stop p x zero h = absurd (omega arith)
 stretch-stop p x (suc n) h = byTest (p x)
     (λ e. rw (stretch-here p x n e) (ap p (let z : x + suc (stretch p (suc x) n) ≡ suc x + stretch p (suc x) n = omega arith in z) ∙ stretch-stop p (suc x) n (omega (arith, stretch-here p x n e))))
     (λ e. rw (stretch-ends p x n e, add-zero x) e)
+
+-- one that begins has a number
+pub stretch-some : (p : ℕ → Bool) (x n : ℕ) → p x ≡ true → 0 < n → 0 < stretch p x n
+stretch-some p x zero e h = absurd (omega arith)
+stretch-some p x (suc n) e h = omega (arith, stretch-here p x n e)
+
+-- in the window from x to e it ends inside
+pub stretch-within : (p : ℕ → Bool) (x y e : ℕ) → x ≤ e → y ≡ x + stretch p x (e - x) → (x ≤ y) × (y ≤ e)
+stretch-within p x y e h is = (omega arith, omega (arith, stretch-le p x (e - x)))
 
 -- ---- a stretch with a border in it: on from there where the border is reached, and no further where it is not
 pub stretch-on : (p : ℕ → Bool) (x m n : ℕ) → stretch p x m ≡ m → stretch p x (m + n) ≡ m + stretch p (x + m) n
