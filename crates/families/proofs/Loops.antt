@@ -1,9 +1,9 @@
--- One turn of the loops over siblings: membership, size, rank and inverse by the family at hand and the rest. Assumes nothing.
+-- One turn of the loops over siblings: membership, end, size, rank and inverse by the family at hand and the rest. Assumes nothing.
 use mathlib.Core.Path.{_≡_, refl, sym, ap, _∙_}
 use mathlib.Core.Bool.{Bool, true, false, _||_, or-false, true≢false}
 use mathlib.Core.List.{List}
 use mathlib.Core.Logic.{inl, inr, ⊎-elim}
-use Prim.Native.Nat.{ℕ, _+_, _-_, _*_, _/_, _%_, _≤_, _<_, _^_}
+use Prim.Native.Nat.{ℕ, _+_, _-_, _*_, _/_, _%_, _≤_, _<_, _^_, max}
 use native.Mathlib.Nat.{div-lt-iff-lt-mul, le-mul-of-pos-right, mod-lt}
 use native.Mathlib.Omega.{arith}
 use lib.ListN.{length}
@@ -65,6 +65,11 @@ module _ (levels : ℕ) (look : ℕ → Family) (at left : ℕ) (f : Family) (H 
       ∙ rank-node 0 (2 ^ 32 - 1) (f .l) (f .r) (f .s) (f .n) (kidsOf levels look at f) (restOf levels look at left f) (H .ok) x
       ∙ ap (λ (c : ℕ). c + countBelow (has (restOf levels look at left f)) x) (sym h)
 
+  -- ---- end
+  pub end-step : endOf (forestAt levels look at left) ≡ max (lastByte (f .l) (f .r) (f .s) (f .n) + 1) (endOf (restOf levels look at left f))
+  unfolding endOf
+  end-step = ap endOf (H .is)
+
   -- ---- size and inverse: `each` is what one segment selects
   module _ (each : ℕ) (h : each ≡ countBelow (inner (kidsOf levels look at f)) (f .r - f .l + 1)) where
     pub size-step : sizeOf (forestAt levels look at left) ≡ f .n * each + sizeOf (restOf levels look at left f)
@@ -103,6 +108,10 @@ nth-le F b y w h = omega (arith, nth-found (has F) (endOf F) y h .below, end-le 
 pub has-none : (levels : ℕ) (look : ℕ → Family) (at left x : ℕ) → left ≡ 0 → has (forestAt levels look at left) x ≡ false
 unfolding has
 has-none levels look at left x e = rw (none-left levels look at left e) refl
+
+pub end-none : (levels : ℕ) (look : ℕ → Family) (at left : ℕ) → left ≡ 0 → endOf (forestAt levels look at left) ≡ 0
+unfolding endOf
+end-none levels look at left e = rw (none-left levels look at left e) refl
 
 pub size-none : (levels : ℕ) (look : ℕ → Family) (at left : ℕ) → left ≡ 0 → sizeOf (forestAt levels look at left) ≡ 0
 unfolding sizeOf endOf countBelow

@@ -1,6 +1,6 @@
 // Families: a decoded layout, and which pattern offsets its nested families of line segments select.
 //
-// `segments` looks at one family, `siblings` at a list of them with their children (membership, size, rank, inverse), and
+// `segments` looks at one family, `siblings` at a list of them with their children (membership, size, end, rank, inverse), and
 // `painting` writes down which element owns each offset of a pattern.
 mod painting;
 mod row;
@@ -8,9 +8,11 @@ mod segments;
 mod siblings;
 
 pub use painting::owners;
+pub use painting::paint;
 pub use row::lay_out;
 pub use row::put_family;
 pub use row::taken_up;
+pub use siblings::end;
 pub use siblings::inverse;
 pub use siblings::rank;
 pub use siblings::selects;

@@ -4,7 +4,7 @@ ghost use mathlib.Core.Bool.{cond};
 ghost use Prim.Native.Nat.{_+_, _-_, _*_, _/_, _%_, _^_, _<_, min};
 ghost use lib.Dec.{ltb};
 ghost use Rattle.counting.specs.Count.{countBelow};
-ghost use Rattle.families.specs.Forest.{Stride};
+ghost use Rattle.families.specs.Forest.{lastByte, Stride};
 ghost use Rattle.families.specs.Decoded.{leafOf, FitsIn};
 use crate::Family;
 
@@ -52,6 +52,17 @@ pub fn segment_len(f: Family) -> u64
     let l = f.l;
     let r = f.r;
     wide(past(r, l)) + 1
+}
+
+// The first offset past f's last byte.
+pub fn end_of(f: Family) -> u64
+    requires { ⌜ FitsIn (2 ^ 32 - 1) f ⌝ }
+    ensures { λ r. ⌜ r ≡ lastByte (f .l) (f .r) (f .s) (f .n) + 1 ⌝ }
+{
+    let l = f.l;
+    let s = f.s;
+    let n = f.n;
+    wide(l) + wide(n - 1) * wide(s) + segment_len(f)
 }
 
 // Where in its segment x lies, where it lies in one.

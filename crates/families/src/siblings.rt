@@ -1,4 +1,4 @@
-// A list of sibling families with their children: membership, size, rank and inverse, by recursion on the levels.
+// A list of sibling families with their children: membership, size, end, rank and inverse, by recursion on the levels.
 //
 // The families' numbers are lent as one row, six a family, so that a call on the children copies nothing.
 ghost use mathlib.Core.Path.{_≡_};
@@ -61,6 +61,26 @@ pub fn segment_size(numbers: &[u32], f: Family, first: usize, levels: u32) -> u6
         return segments::segment_len(f);
     }
     size(numbers, first, children, levels)
+}
+
+// The first offset past every family. The children do not matter: each ends in its parent's segment.
+pub fn end(numbers: &[u32], first: usize, count: u32, levels: u32) -> u64
+    requires { ⌜ Sound (forestAt levels (familyAt (now numbers)) first count) ⌝ }
+    ensures { λ r. ⌜ r ≡ endOf (forestAt levels (familyAt (now (numbers .entry))) first count) ⌝ }
+{
+    let mut at = first;
+    let mut left = count;
+    let mut end: u64 = 0;
+    while 0 < left {
+        let f = row::family_at(numbers, at);
+        let past = segments::end_of(f);
+        if end < past {
+            end = past;
+        }
+        at = row::next(f, at);
+        left -= 1;
+    }
+    end
 }
 
 // How many offsets below x the families select.
