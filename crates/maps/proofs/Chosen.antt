@@ -43,7 +43,7 @@ size-below F n none = sym (size-at F (max n (endOf F)) (omega arith)) ∙ count-
 -- ---- an element of a layout
 module _ (t : Layout) (e : ℕ) where
   -- its selection is made of its tree
-  families-tree : (size : ℕ) → familiesOf (selectionOf t size e) (rowOf (t .family)) ≡ treeOf 4 t e
+  pub families-tree : (size : ℕ) → familiesOf (selectionOf t size e) (rowOf (t .family)) ≡ treeOf 4 t e
   unfolding selectionOf
   families-tree size = row-element 4 t e (rowOf (t .family)) refl
 

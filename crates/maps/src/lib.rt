@@ -1,6 +1,8 @@
 // Maps: offsets between the file and the subfile of one selection of it. It knows nothing of refusals: what it asks, an accepted sheet gives.
 //
 // `mapping` says whether a file offset is selected, what rank it has, and which file offset has a rank.
+use families::FileOffset;
+
 mod mapping;
 
 pub use mapping::belongs_to;
@@ -17,4 +19,10 @@ pub struct Selection {
     pub first: usize,
     pub tops: u32,
     pub size: u32,
+}
+
+// A window of the file: from `start` on, up to but not including `end`.
+pub struct Window {
+    pub start: FileOffset,
+    pub end: FileOffset,
 }
