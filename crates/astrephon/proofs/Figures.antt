@@ -1,24 +1,32 @@
 -- THE FIGURES of 01 that are proved of the definitions: one table, what each call says and what 01 says, and one theorem over it. Assumes nothing.
-use mathlib.Core.Path.{_≡_, refl}
-use mathlib.Core.List.{List, [], _∷_, map}
+use mathlib.Core.Path.{_≡_, refl, sym, ap, ap₂, _∙_}
+use mathlib.Core.List.{List, [], _∷_, _++_, map, map-append}
 use Prim.Native.Nat.{ℕ}
 use lib.ListN.{length}
 use Rattle.counting.specs.Count.{countBelow, stretch}
-use Rattle.families.specs.Forest.{Forest, nil, node, anyBelow, inSegments, has, endOf, sizeOf}
+use Rattle.counting.specs.Runs.{glue, runsOf}
+use Rattle.families.specs.Forest.{anyBelow, inSegments, has, endOf, sizeOf}
+use Rattle.families.specs.Decoded.{siblings, forestAt}
 use Rattle.families.specs.Flat.{width, total, flat, totals, flats, elementsAt, layoutOf}
 use Rattle.families.specs.Owners.{times}
+use Rattle.families.proofs.Figures.{pairs, singles}
 use Rattle.sheets.specs.Refusals.{firstFault, unless, andThen, HOLE-OR-OVERLAP, NO-FLAG, HOLE, OVERLAP, SHORT}
 use Rattle.sheets.specs.Bytes.{le16, le32, two, four}
 use Rattle.sheets.specs.Records.{lengthOf, headTests, familyRecord, badSegment, familyTests, headerTests, elementTests, bodyTests, fault}
 use Rattle.sheets.specs.Sheet.{siblingsFrom, forestFrom, elementsFrom, elementsOf, refusal, accepted, judged, answer, readSheet}
 use Rattle.sheets.specs.Pattern.{sizes, firstUneven}
 use Rattle.sheets.specs.Encode.{familyBytes, forestBytes, elementBytes, elementsBytes, encode}
+use Rattle.runs.specs.Listing.{listOf}
+use Rattle.astrephon.specs.Refusals.{BEFORE, FOREIGN, ROOM, unlessSheet, unlessFault}
 use Rattle.astrephon.specs.Check.{checkedOf, checkCall}
-use Rattle.astrephon.specs.Said.{Said, done, checkSays}
-
--- one family of one segment without children, as the figures have them
-abbrev only : (l r : ℕ) → Forest
-only l r = node l r 0 1 nil nil
+use Rattle.astrephon.specs.Offsets.{offsetsOf}
+use Rattle.astrephon.specs.Maps.{exactOf, nextOf, exactCall, nextCall, inverseCall}
+use Rattle.astrephon.specs.Shares.{listedIn, sharedCall}
+use Rattle.astrephon.specs.Said.{Said, done, holding, checkSays, mappedSays, locatedSays, listedSays, sharedSays}
+use Rattle.astrephon.specs.declared.Mapped.the-variants as mapped
+use Rattle.astrephon.proofs.Undoing.{exact-then-inverse}
+use Rattle.astrephon.proofs.Panel.{sheetC, panel-exact}
+use Rattle.astrephon.proofs.Samples.{only, sheetA, sheetB, sheetPairs, sheetSingles, shared-A-B, shared-pairs-singles}
 
 -- the sheets of 01's layouts
 unfoldable pub sheetF : List ℕ
@@ -40,23 +48,101 @@ pub record Figure : Type 0 where
   pub says : Said
   pub wanted : Said
 
-abbrev checked : List ℕ → Said → Figure
-checked sheet wanted = record { says = checkSays (checkCall sheet); wanted = wanted }
+-- the calls by their sheet and what else they take
+abbrev checks : List ℕ → Said → Figure
+checks sheet wanted = record { says = checkSays (checkCall sheet); wanted = wanted }
 
-abbrev refusedAt : (number place flag : ℕ) → Said
-refusedAt number place flag = record { number = number; sheet = 1; place = place; flag = flag; values = [] }
+abbrev maps : List ℕ → (e x : ℕ) → Said → Figure
+maps sheet e x wanted = record { says = mappedSays (exactCall sheet e x); wanted = wanted }
 
-unfoldable pub table : List Figure
-table =
-    checked sheetF (done (2 ∷ 6 ∷ 3 ∷ []))
-    ∷ checked sheetHole (refusedAt HOLE-OR-OVERLAP 2 HOLE)
-    ∷ checked sheetOverlap (refusedAt HOLE-OR-OVERLAP 1 OVERLAP)
-    ∷ checked [] (refusedAt SHORT 0 NO-FLAG)
+abbrev mapsNext : List ℕ → (e x : ℕ) → Said → Figure
+mapsNext sheet e x wanted = record { says = mappedSays (nextCall sheet e x); wanted = wanted }
+
+abbrev locates : List ℕ → (e y : ℕ) → Said → Figure
+locates sheet e y wanted = record { says = locatedSays (inverseCall sheet e y); wanted = wanted }
+
+-- of the first element of each, from 0 to b
+abbrev shares : (first second : List ℕ) → (b : ℕ) → (list : List ℕ) → Said → Figure
+shares first second b list wanted = record { says = sharedSays (sharedCall first second 0 0 0 b list); wanted = wanted }
+
+abbrev refusedSheet : (number place flag : ℕ) → Said
+refusedSheet number place flag = record { number = number; sheet = 1; place = place; flag = flag; values = []; buffer = [] }
+
+abbrev refused : (number place : ℕ) → Said
+refused number place = record { number = number; sheet = 0; place = place; flag = NO-FLAG; values = []; buffer = [] }
+
+-- lists whose slots all hold 9
+abbrev sevenSlots : List ℕ
+sevenSlots = 9 ∷ 9 ∷ 9 ∷ 9 ∷ 9 ∷ 9 ∷ 9 ∷ []
+
+abbrev eightSlots : List ℕ
+eightSlots = 9 ∷ sevenSlots
+
+-- those that the definitions compute
+unfoldable pub computed : List Figure
+computed =
+    checks sheetF (done (2 ∷ 6 ∷ 3 ∷ []))
+    ∷ checks sheetHole (refusedSheet HOLE-OR-OVERLAP 2 HOLE)
+    ∷ checks sheetOverlap (refusedSheet HOLE-OR-OVERLAP 1 OVERLAP)
+    ∷ checks [] (refusedSheet SHORT 0 NO-FLAG)
+    ∷ maps sheetF 1 10 (done (2 ∷ []))
+    ∷ maps sheetF 1 6 (refused FOREIGN 0)
+    ∷ mapsNext sheetF 1 6 (done (2 ∷ []))
+    ∷ maps sheetF 1 1 (refused BEFORE 0)
     ∷ []
 
+-- those that compute once a law has taken a step: a search up to 2^40, the panel, and shared runs, which would read the sheets once an offset
+unfoldable pub reasoned : List Figure
+reasoned =
+    locates sheetF 1 2 (done (10 ∷ []))
+    ∷ maps sheetC 1 9864 (done (2464 ∷ []))
+    ∷ shares sheetA sheetB 12 sevenSlots (holding (refused ROOM 2) sevenSlots)
+    ∷ shares sheetA sheetB 12 eightSlots (holding (done (2 ∷ [])) (0 ∷ 1 ∷ 0 ∷ 0 ∷ 6 ∷ 1 ∷ 2 ∷ 3 ∷ []))
+    ∷ shares sheetPairs sheetSingles 32 eightSlots (holding (done (2 ∷ [])) (0 ∷ 1 ∷ 0 ∷ 0 ∷ 16 ∷ 1 ∷ 4 ∷ 4 ∷ []))
+    ∷ []
+
+-- THE TABLE
+abbrev pub table : List Figure
+table = computed ++ reasoned
+
+computed-hold : map (λ (f : Figure). f .says) computed ≡ map (λ (f : Figure). f .wanted) computed
+unfolding computed sheetF sheetHole sheetOverlap encode elementsBytes elementBytes forestBytes familyBytes two four width total flat totals flats
+    elementsAt layoutOf checkSays mappedSays checkCall checkedOf exactOf nextOf offsetsOf unlessSheet unlessFault readSheet answer judged accepted refusal
+    firstUneven sizes elementsOf elementsFrom forestFrom siblingsFrom fault bodyTests elementTests headerTests familyTests badSegment familyRecord
+    headTests lengthOf le16 le32 andThen unless firstFault times forestAt siblings sizeOf endOf has inSegments anyBelow countBelow stretch
+computed-hold = refl
+
+-- 10 is byte 2 of F's element 1, since its exact mapping is 2
+exact-F : exactCall sheetF 1 10 ≡ mapped.At (record { 0 = 2 })
+unfolding sheetF encode elementsBytes elementBytes forestBytes familyBytes two four width total flat totals flats
+    elementsAt layoutOf exactOf offsetsOf unlessSheet unlessFault readSheet answer judged accepted refusal
+    firstUneven sizes elementsOf elementsFrom forestFrom siblingsFrom fault bodyTests elementTests headerTests familyTests badSegment familyRecord
+    headTests lengthOf le16 le32 andThen unless firstFault times forestAt siblings sizeOf endOf has inSegments anyBelow countBelow stretch
+exact-F = refl
+
+inverse-F : locatedSays (inverseCall sheetF 1 2) ≡ done (10 ∷ [])
+unfolding locatedSays
+inverse-F = ap locatedSays (exact-then-inverse sheetF 1 10 (record { 0 = 2 }) exact-F)
+
+exact-C : mappedSays (exactCall sheetC 1 9864) ≡ done (2464 ∷ [])
+unfolding mappedSays
+exact-C = ap mappedSays panel-exact
+
+seven-A-B : sharedSays (sharedCall sheetA sheetB 0 0 0 12 sevenSlots) ≡ holding (refused ROOM 2) sevenSlots
+unfolding listedSays listedIn listOf runsOf glue has inSegments anyBelow countBelow
+seven-A-B = ap sharedSays (shared-A-B sevenSlots)
+
+eight-A-B : sharedSays (sharedCall sheetA sheetB 0 0 0 12 eightSlots) ≡ holding (done (2 ∷ [])) (0 ∷ 1 ∷ 0 ∷ 0 ∷ 6 ∷ 1 ∷ 2 ∷ 3 ∷ [])
+unfolding listedSays listedIn listOf runsOf glue has inSegments anyBelow countBelow
+eight-A-B = ap sharedSays (shared-A-B eightSlots)
+
+eight-pairs-singles : sharedSays (sharedCall sheetPairs sheetSingles 0 0 0 32 eightSlots) ≡ holding (done (2 ∷ [])) (0 ∷ 1 ∷ 0 ∷ 0 ∷ 16 ∷ 1 ∷ 4 ∷ 4 ∷ [])
+unfolding listedSays listedIn listOf runsOf glue pairs singles has inSegments anyBelow countBelow
+eight-pairs-singles = ap sharedSays (shared-pairs-singles eightSlots)
+
+reasoned-hold : map (λ (f : Figure). f .says) reasoned ≡ map (λ (f : Figure). f .wanted) reasoned
+unfolding reasoned
+reasoned-hold = λ i. inverse-F i ∷ exact-C i ∷ seven-A-B i ∷ eight-A-B i ∷ eight-pairs-singles i ∷ []
+
 pub figures : map (λ (f : Figure). f .says) table ≡ map (λ (f : Figure). f .wanted) table
-unfolding table sheetF sheetHole sheetOverlap encode elementsBytes elementBytes forestBytes familyBytes two four width total flat totals flats
-    elementsAt layoutOf checkSays checkCall checkedOf readSheet answer judged accepted refusal firstUneven sizes elementsOf elementsFrom forestFrom
-    siblingsFrom fault bodyTests elementTests headerTests familyTests badSegment familyRecord headTests lengthOf le16 le32 andThen unless firstFault
-    times sizeOf endOf has inSegments anyBelow countBelow stretch
-figures = refl
+figures = map-append (λ (f : Figure). f .says) computed reasoned ∙ ap₂ _++_ computed-hold reasoned-hold ∙ sym (map-append (λ (f : Figure). f .wanted) computed reasoned)

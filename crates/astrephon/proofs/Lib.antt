@@ -1,2 +1,13 @@
+pub mod Orders
+pub mod Opens
+pub mod PairOpens
+pub mod Faults
 pub mod Checks
+pub mod Mappings
+pub mod Listings
+pub mod Unique
+pub mod Undoing
+pub mod SharedRuns
+pub mod Panel
+pub mod Samples
 pub mod Figures

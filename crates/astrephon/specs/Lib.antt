@@ -1,2 +1,7 @@
+pub mod Refusals
+pub mod Offsets
 pub mod Check
+pub mod Maps
+pub mod Shares
+pub mod Openings
 pub mod Said

@@ -1,9 +1,21 @@
 // Astrephon: THE CALLS. Each takes every input, and does its work or gives one refusal of 01's table; none asks anything of its caller.
 //
-// `checking` answers for one sheet.
+// `checking` answers for one sheet, `mapping` maps offsets between the file and one element's subfile, `sharing` lists what two elements share; `opened` is
+// how a call on an element begins.
 mod checking;
+mod mapping;
+mod opened;
+mod ranges;
+mod sharing;
 
 pub use checking::check;
+pub use families::FileOffset;
+pub use families::SubfileOffset;
+pub use mapping::exact;
+pub use mapping::inverse;
+pub use mapping::next;
+pub use mapping::span;
+pub use sharing::shared_runs;
 pub use sheets::COUNT;
 pub use sheets::DEPTH;
 pub use sheets::HOLE;
@@ -18,6 +30,24 @@ pub use sheets::SEGMENT;
 pub use sheets::SHORT;
 pub use sheets::SPAN;
 pub use sheets::TRAILING;
+
+// The numbers of 01's table that a call can be refused with though its sheets are accepted.
+pub const ELEMENT: u8 = 12;
+
+pub const BEFORE: u8 = 13;
+
+pub const FAR: u8 = 14;
+
+pub const WINDOW: u8 = 15;
+
+pub const FOREIGN: u8 = 16;
+
+pub const ROOM: u8 = 18;
+
+// File offsets are below the limit. A window may end there; an offset is the last one at most.
+pub const LIMIT: u64 = 1 << 40;
+
+pub const LAST: u64 = LIMIT - 1;
 
 // A refusal: its number in 01's table, the sheet at fault (1 or 2, and 0 where it is none), the place, and the flag of number 11.
 pub struct Refusal {
@@ -37,5 +67,29 @@ pub struct Facts {
 // The answer to a sheet.
 pub enum Checked {
     Accepted(Facts),
+    Refused(Refusal),
+}
+
+// The answer to exact and next mapping.
+pub enum Mapped {
+    At(SubfileOffset),
+    Refused(Refusal),
+}
+
+// The answer to inverse mapping.
+pub enum Located {
+    At(FileOffset),
+    Refused(Refusal),
+}
+
+// The answer to an interval's span: the first and the last subfile offset, both included.
+pub enum Spanned {
+    Range(SubfileOffset, SubfileOffset),
+    Refused(Refusal),
+}
+
+// The answer to shared runs: how many the list holds now.
+pub enum Listed {
+    Runs(u64),
     Refused(Refusal),
 }

@@ -1,0 +1,48 @@
+-- Which number refuses an offset, an interval or a window. Assumes nothing.
+use mathlib.Core.Path.{_≡_, refl, sym, _∙_}
+use Prim.Native.Nat.{ℕ, _≤_, _<_}
+use native.Mathlib.Omega.{arith}
+use borrow.Author.Tests.{lt-ltb, le-ltb, le-leb, lt-leb, ltb-false}
+use Rattle.sheets.specs.Refusals.{firstFault}
+use Rattle.sheets.proofs.Faults.{no-fault}
+use Rattle.astrephon.specs.Refusals.{BEFORE, FAR, WINDOW}
+use Rattle.astrephon.specs.Offsets.{LIMIT, offsetTests, rangeTests}
+
+module _ (from x : ℕ) where
+  pub offset-before : x < from → BEFORE ≡ firstFault (offsetTests from x)
+  unfolding firstFault
+  offset-before h = rw (lt-ltb _ _ h) refl
+
+  pub offset-far : from ≤ x → LIMIT ≤ x → FAR ≡ firstFault (offsetTests from x)
+  unfolding firstFault
+  offset-far h l = rw (le-ltb _ _ h, le-leb _ _ l) refl
+
+  pub offset-fine : from ≤ x → x < LIMIT → 0 ≡ firstFault (offsetTests from x)
+  unfolding firstFault
+  offset-fine h l = rw (le-ltb _ _ h, lt-leb _ _ l) refl
+
+module _ (most from a b : ℕ) where
+  pub range-back : b < a → WINDOW ≡ firstFault (rangeTests most from a b)
+  unfolding firstFault
+  range-back h = rw (lt-ltb _ _ h) refl
+
+  module _ (forward : a ≤ b) where
+    pub range-before : a < from → BEFORE ≡ firstFault (rangeTests most from a b)
+    unfolding firstFault
+    range-before h = rw (le-ltb _ _ forward, lt-ltb _ _ h) refl
+
+    pub range-far : from ≤ a → most < b → FAR ≡ firstFault (rangeTests most from a b)
+    unfolding firstFault
+    range-far h l = rw (le-ltb _ _ forward, le-ltb _ _ h, lt-ltb _ _ l) refl
+
+    pub range-fine : from ≤ a → b ≤ most → 0 ≡ firstFault (rangeTests most from a b)
+    unfolding firstFault
+    range-fine h l = rw (le-ltb _ _ forward, le-ltb _ _ h, le-ltb _ _ l) refl
+
+  -- and what is known where none does
+  pub range-known : (n : ℕ) → n ≡ firstFault (rangeTests most from a b) → n ≡ 0 → (a ≤ b) × (from ≤ a) × (b ≤ most)
+  range-known n e z =
+      let back = no-fault WINDOW _ _ (omega arith) (sym e ∙ z) in
+      let before = no-fault BEFORE _ _ (omega arith) (back .1) in
+      let far = no-fault FAR _ _ (omega arith) (before .1) in
+      (ltb-false b a (back .0), ltb-false a from (before .0), ltb-false most b (far .0))

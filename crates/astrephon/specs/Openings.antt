@@ -1,0 +1,23 @@
+-- How the calls open an element, in the code's own terms: the sheet's refusal, or the index's, or the selection. Assumes nothing: these are definitions.
+use mathlib.Core.List.{[], _∷_}
+use mathlib.Core.Bool.{cond}
+use Prim.Native.Nat.{ℕ}
+use lib.Dec.{eqb}
+use Rattle.sheets.specs.declared.Reading.{Reading}
+use Rattle.maps.specs.Selected.{selectionOf}
+use Rattle.astrephon.specs.declared.Refusal.{Refusal}
+use Rattle.astrephon.specs.declared.opened.Opening.{Opening}
+use Rattle.astrephon.specs.Refusals.{callRefusal, unlessSheet, unlessFault}
+use Rattle.astrephon.specs.Offsets.{elementTest}
+
+abbrev pub closedBy : Refusal → Opening
+closedBy f = record { refusal = f; selection = record { from = 0; period = 0; levels = 0; first = 0; tops = 0; size = 0 } }
+
+-- number 0 is no refusal
+unfoldable pub openingOf : (k : ℕ) → Reading → (e : ℕ) → Opening
+openingOf k r e =
+    unlessSheet closedBy k r (unlessFault closedBy (elementTest r e ∷ []) (record { refusal = callRefusal 0 0; selection = selectionOf (r .layout) (r .size) e }))
+
+-- the refusal that goes first, of those of two sheets' elements: sheet 1's, sheet 2's, and then an index
+unfoldable pub soonerOf : (f g : Refusal) → Refusal
+soonerOf f g = cond (eqb (f .sheet) 0) (cond (eqb (g .sheet) 0) (cond (eqb (f .number) 0) g f) g) f

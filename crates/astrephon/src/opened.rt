@@ -1,0 +1,72 @@
+// Opening an element of a sheet: how every call that is about one begins.
+ghost use mathlib.Core.Path.{_≡_};
+ghost use lib.ListN.{length};
+ghost use Rattle.families.specs.Decoded.{rowOf};
+ghost use Rattle.sheets.specs.Sheet.{readSheet};
+ghost use Rattle.astrephon.specs.Refusals.{callRefusal};
+ghost use Rattle.astrephon.specs.Openings.{closedBy, openingOf};
+use crate::Refusal;
+use maps::Selection;
+
+// What the element selects of the file. A refusal with number 0 is none, and with any other there is no selection.
+pub struct Opening {
+    pub refusal: Refusal,
+    pub selection: Selection,
+}
+
+// A refusal that blames no sheet.
+pub fn refusal(number: u8, place: u64) -> Refusal
+    ensures { λ r. ⌜ r ≡ callRefusal number place ⌝ }
+{
+    Refusal {
+        number,
+        sheet: 0,
+        place,
+        flag: crate::NO_FLAG,
+    }
+}
+
+// What is opened where something is refused.
+fn closed(refusal: Refusal) -> Opening
+    ensures { λ r. ⌜ r ≡ closedBy refusal ⌝ }
+{
+    Opening {
+        refusal,
+        selection: Selection {
+            from: 0,
+            period: 0,
+            levels: 0,
+            first: 0,
+            tops: 0,
+            size: 0,
+        },
+    }
+}
+
+// Opens an element of the k-th sheet of a call. The numbers of the sheet's families are laid out in the row.
+pub fn open_element(sheet: &[u8], k: u8, element: u64, numbers: &mut [u32]) -> Opening
+    requires { ⌜ length (now numbers) ≡ 1536 ⌝ }
+    ensures { λ r. ⌜ r ≡ openingOf k (readSheet (now (sheet .entry))) element ⌝
+        ∗ ⌜ (r .refusal .number ≡ 0 → now (numbers .exit) ≡ rowOf (readSheet (now (sheet .entry)) .layout .family)) ⌝ }
+{
+    let reading = sheets::read(sheet);
+    if reading.number != 0 {
+        return closed(Refusal {
+            number: reading.number,
+            sheet: k,
+            place: reading.place,
+            flag: reading.flag,
+        });
+    }
+    let layout = reading.layout;
+    let size = reading.size;
+    if layout.elements as u64 <= element {
+        return closed(refusal(crate::ELEMENT, 0));
+    }
+    families::lay_out(layout, numbers);
+    let selection = maps::selection_of(layout, size, element as usize, numbers);
+    Opening {
+        refusal: refusal(0, 0),
+        selection,
+    }
+}
