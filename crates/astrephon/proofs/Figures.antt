@@ -5,10 +5,10 @@ use Prim.Native.Nat.{ℕ}
 use lib.ListN.{length}
 use Rattle.counting.specs.Count.{countBelow, stretch}
 use Rattle.counting.specs.Runs.{glue, runsOf}
+use Rattle.counting.specs.Elements.{times}
 use Rattle.families.specs.Forest.{anyBelow, inSegments, has, endOf, sizeOf}
 use Rattle.families.specs.Decoded.{siblings, forestAt}
 use Rattle.families.specs.Flat.{width, total, flat, totals, flats, elementsAt, layoutOf}
-use Rattle.families.specs.Owners.{times}
 use Rattle.families.proofs.Figures.{pairs, singles}
 use Rattle.sheets.specs.Refusals.{firstFault, unless, andThen, HOLE-OR-OVERLAP, NO-FLAG, HOLE, OVERLAP, SHORT}
 use Rattle.sheets.specs.Bytes.{le16, le32, two, four}

@@ -6,10 +6,10 @@ use Prim.Native.Nat.{ℕ, _≤_, _<_, max}
 use native.Mathlib.Omega.{arith}
 use Rattle.counting.specs.Count.{countBelow, stretch}
 use Rattle.counting.specs.Periodic.{owns}
+use Rattle.counting.specs.Elements.{times}
 use Rattle.families.specs.Forest.{Forest, nil, node, anyBelow, inSegments, has, endOf, sizeOf}
 use Rattle.families.specs.Decoded.{siblings, forestAt, treeOf}
 use Rattle.families.specs.Flat.{width, total, flat, totals, flats, elementsAt, layoutOf}
-use Rattle.families.specs.Owners.{times}
 use Rattle.families.proofs.Figures.{pairs, singles}
 use Rattle.sheets.specs.declared.Reading.{Reading}
 use Rattle.sheets.specs.Refusals.{firstFault, unless, andThen}

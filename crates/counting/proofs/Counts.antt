@@ -114,3 +114,8 @@ pub countIn-front : (p : ℕ → Bool) (a n : ℕ) → countIn p a (suc n) ≡ b
 countIn-front p a n =
     let e : a + suc n ≡ suc a + n = omega arith in
     omega (arith, count-split p a (suc n), ap (countBelow p) e, count-split p (suc a) n, count-suc p a)
+
+-- a number of the window that passes is counted by the whole window
+pub countIn-past : (p : ℕ → Bool) (a n x : ℕ) → a ≤ x → x < a + n → p x ≡ true → countIn p a (x - a) < countIn p a n
+unfolding countIn
+countIn-past p a n x h k e = count-past (λ y. p (a + y)) (x - a) n (ap p (add-sub-of-le h) ∙ e) (omega arith)

@@ -5,8 +5,8 @@ use mathlib.Core.List.{List, [], _∷_, _++_, map}
 use Prim.Native.Nat.{ℕ, zero, suc, _+_, _-_, _≤_, _<_}
 use native.Mathlib.Nat.{add-zero, zero-add, suc-add, add-sub-of-le, add-sub-cancel-left}
 use native.Mathlib.Omega.{arith}
-use lib.ListN.{length, getD}
-use lib.Seq.{ext-getD, getD-at}
+use lib.ListN.{length, getD, take, drop, length-drop}
+use lib.Seq.{ext-getD, getD-at, getD-take, getD-drop, length-take-le}
 use Rattle.counting.specs.Count.{countIn}
 use Rattle.counting.specs.Gather.{tabulated, inFile, gathered}
 use Rattle.counting.proofs.Cases.{byTest}
@@ -56,6 +56,15 @@ pub tabulated-whole : (a n : ℕ) (file : List ℕ) → length file ≡ n → ta
 tabulated-whole a n file e =
     ext-getD 0 (tabulated a n (inFile a file)) file (length-tabulated a n _ ∙ sym e) (λ i h.
     getD-tabulated a n (inFile a file) i 0 (omega (arith, length-tabulated a n (inFile a file))) ∙ ap (λ (j : ℕ). getD file j 0) (add-sub-cancel-left a i))
+
+-- a window whose bytes stand in a list one after the other from k on is a part of that list
+pub tabulated-part : (x m : ℕ) (f : ℕ → ℕ) (l : List ℕ) (k : ℕ) → k + m ≤ length l → ((y : ℕ) → y < m → f (x + y) ≡ getD l (k + y) 0)
+    → tabulated x m f ≡ take m (drop k l)
+tabulated-part x m f l k room same =
+    let long : m ≤ length (drop k l) = omega (arith, length-drop k l) in
+    ext-getD 0 (tabulated x m f) (take m (drop k l)) (length-tabulated x m f ∙ sym (length-take-le m (drop k l) long)) (λ y h.
+    let less : y < m = omega (arith, length-tabulated x m f) in
+    getD-tabulated x m f y 0 less ∙ same y less ∙ sym (getD-take m (drop k l) y 0 less ∙ getD-drop k l y 0))
 
 -- ---- those that pass
 pub length-gathered : (p : ℕ → Bool) (a n : ℕ) (f : ℕ → ℕ) → length (gathered p a n f) ≡ countIn p a n

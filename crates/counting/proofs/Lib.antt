@@ -7,4 +7,9 @@ pub mod Runs
 pub mod RunSteps
 pub mod RunCounts
 pub mod Gathers
+pub mod Elements
+pub mod Folds
 pub mod Scatters
+pub mod Trays
+pub mod TrayParts
+pub mod Moves

@@ -2,3 +2,5 @@ pub mod Count
 pub mod Periodic
 pub mod Gather
 pub mod Runs
+pub mod Elements
+pub mod Trays

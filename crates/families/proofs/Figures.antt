@@ -9,11 +9,11 @@ use lib.Dec.{eqb, leb, ltb}
 use borrow.Author.Tests.{eq-eqb, ne-eqb, le-leb, lt-leb, lt-ltb}
 use Rattle.counting.specs.Count.{bit, countBelow}
 use Rattle.counting.specs.Periodic.{owns}
+use Rattle.counting.specs.Elements.{times}
 use Rattle.counting.proofs.Cases.{lt-or-le, same-or-not}
 use Rattle.counting.proofs.Counts.{count-none}
 use Rattle.counting.proofs.Periods.{rank-owns}
 use Rattle.families.specs.Forest.{Forest, nil, node, anyBelow, inSegments, has, inner, endOf, sizeOf, Stride, WF}
-use Rattle.families.specs.Owners.{times}
 use Rattle.families.proofs.Division.{byDivision, leaf-div, segments-count}
 use Rattle.families.proofs.Forests.{each-leaf, rank-node, size-node, size-at}
 

@@ -1,10 +1,10 @@
 -- What an entry of the table of owners means, and the loop that paints the elements one after the other. Assumes nothing.
 use mathlib.Core.Path.{_≡_, refl, sym, ap, ap₂, _∙_}
-use mathlib.Core.Bool.{Bool, true, false, true≢false}
+use mathlib.Core.Bool.{Bool, true, false}
 use mathlib.Core.List.{List, [], _∷_, _++_}
 use mathlib.Core.Logic.{_↔_, ⊎-elim}
-use Prim.Native.Nat.{ℕ, zero, suc, _+_, _-_, _≤_, _<_}
-use native.Mathlib.Nat.{zero-add}
+use Prim.Native.Nat.{ℕ, suc, _+_, _-_, _≤_, _<_}
+use native.Mathlib.Nat.{zero-add, add-zero}
 use native.Mathlib.Numerals.{add-one}
 use native.Mathlib.Omega.{arith}
 use lib.ListN.{length, getD, replicate, length-replicate, getD-replicate}
@@ -12,12 +12,14 @@ use lib.Seq.{ext-getD}
 use borrow.Author.Tests.{eq-eqb, ne-eqb}
 use Rattle.counting.specs.Count.{bit}
 use Rattle.counting.specs.Gather.{tabulated}
+use Rattle.counting.specs.Elements.{element, times, firstOf}
 use Rattle.counting.proofs.Cases.{byTest, lt-or-le}
 use Rattle.counting.proofs.Gathers.{length-tabulated, getD-tabulated, tabulated-more}
+use Rattle.counting.proofs.Elements.{first-lt, first-has, first-only, times-append}
 use Rattle.families.specs.declared.Layout.{Layout}
 use Rattle.families.specs.Forest.{Forest, has, inner, WF}
 use Rattle.families.specs.Decoded.{elementOf, forestAt, familyAt, rowOf, treeOf, selections, Layout·ok}
-use Rattle.families.specs.Owners.{times, firstOf, owner, mark, painted}
+use Rattle.families.specs.Owners.{owner, mark, painted}
 use Rattle.families.proofs.Marks.{painted-is}
 use Rattle.families.proofs.Rows.{row-element}
 use Rattle.families.proofs.Turns.{inner-has}
@@ -40,11 +42,6 @@ module _ (L : List (ℕ → Bool)) (x : ℕ) where
   at-many : 2 ≤ times L x → owner L x ≡ 255
   unfolding owner
   at-many h = rw (ne-eqb (times L x) 0 (λ q. omega arith), ne-eqb (times L x) 1 (λ q. omega arith)) refl
-
-first-lt : (L : List (ℕ → Bool)) (x : ℕ) → 1 ≤ times L x → firstOf L x < length L
-unfolding times firstOf
-first-lt [] x h = absurd (omega arith)
-first-lt (p ∷ L) x h = byTest (p x) (λ e. rw e (omega arith)) (λ e. rw e (omega (arith, first-lt L x (omega (arith, rw e at h)))))
 
 owned : (L : List (ℕ → Bool)) (x : ℕ) → Owned (times L x) (firstOf L x) (length L) (owner L x)
 owned L x = ⊎-elim
@@ -72,43 +69,16 @@ owner-many L x room = go (owned L x) room
     go (one a b c) r = (λ e. omega arith, λ e. omega arith)
     go (many a b) r = (λ e. a, λ e. b)
 
-abbrev pub nowhere : ℕ → Bool
-nowhere x = false
-
-times-some : (L : List (ℕ → Bool)) (x e : ℕ) → getD L e nowhere x ≡ true → 1 ≤ times L x
-unfolding times
-times-some [] x e h = absurd (true≢false (sym h))
-times-some (p ∷ L) x zero h = rw h (omega arith)
-times-some (p ∷ L) x (suc e) h = omega (arith, times-some L x e h)
-
-first-has : (L : List (ℕ → Bool)) (x : ℕ) → 1 ≤ times L x → getD L (firstOf L x) nowhere x ≡ true
-unfolding times firstOf
-first-has [] x h = absurd (omega arith)
-first-has (p ∷ L) x h = byTest (p x) (λ e. rw e e) (λ e. rw e (first-has L x (omega (arith, rw e at h))))
-
-first-only : (L : List (ℕ → Bool)) (x e : ℕ) → times L x ≡ 1 → getD L e nowhere x ≡ true → firstOf L x ≡ e
-unfolding times firstOf
-first-only [] x e t h = absurd (omega arith)
-first-only (p ∷ L) x zero t h = rw h refl
-first-only (p ∷ L) x (suc e) t h = byTest (p x)
-    (λ q. absurd (omega (arith, times-some L x e h, rw q at t)))
-    (λ q. rw q (ap suc (first-only L x e (omega (arith, rw q at t)) h)))
-
-pub owner-one : (L : List (ℕ → Bool)) (x e : ℕ) → length L ≤ 254 → e < length L → (owner L x ≡ e + 1) ↔ ((times L x ≡ 1) × (getD L e nowhere x ≡ true))
+pub owner-one : (L : List (ℕ → Bool)) (x e : ℕ) → length L ≤ 254 → e < length L → (owner L x ≡ e + 1) ↔ ((times L x ≡ 1) × (element L e x ≡ true))
 owner-one L x e room h = (go (owned L x), λ p. at-one L x (p .0) ∙ ap (λ (f : ℕ). f + 1) (first-only L x e (p .0) (p .1)))
   where
-    go : Owned (times L x) (firstOf L x) (length L) (owner L x) → owner L x ≡ e + 1 → (times L x ≡ 1) × (getD L e nowhere x ≡ true)
+    go : Owned (times L x) (firstOf L x) (length L) (owner L x) → owner L x ≡ e + 1 → (times L x ≡ 1) × (element L e x ≡ true)
     go (none a b) q = absurd (omega arith)
     go (one a b c) q = let z : firstOf L x ≡ e = omega arith in (a, rw z at (first-has L x (omega arith)))
     go (many a b) q = absurd (omega arith)
 
 -- ---- one element more
 module _ (p : ℕ → Bool) (x : ℕ) where
-  times-more : (L : List (ℕ → Bool)) → times (L ++ (p ∷ [])) x ≡ times L x + bit (p x)
-  unfolding times
-  times-more [] = omega arith
-  times-more (q ∷ L) = omega (arith, times-more L)
-
   first-old : (L : List (ℕ → Bool)) → 1 ≤ times L x → firstOf (L ++ (p ∷ [])) x ≡ firstOf L x
   unfolding times firstOf
   first-old [] h = absurd (omega arith)
@@ -123,7 +93,8 @@ marked-both : (me v : ℕ) → (v ≡ 0 → ⊥) → (v ≡ me → ⊥) → mark
 marked-both me v a b = rw (ne-eqb v 0 a, ne-eqb v me b) refl
 
 owner-more : (L : List (ℕ → Bool)) (p : ℕ → Bool) (x : ℕ) → length L ≤ 253 → mark (length L + 1) (p x) (owner L x) ≡ owner (L ++ (p ∷ [])) x
-owner-more L p x room = go (p x) refl (times-more p x L) (owned L x)
+unfolding times
+owner-more L p x room = go (p x) refl (times-append L (p ∷ []) x ∙ rw add-zero) (owned L x)
   where
     go : (b : Bool) → p x ≡ b → times (L ++ (p ∷ [])) x ≡ times L x + bit b → Owned (times L x) (firstOf L x) (length L) (owner L x)
         → mark (length L + 1) b (owner L x) ≡ owner (L ++ (p ∷ [])) x

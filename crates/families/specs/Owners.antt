@@ -3,17 +3,7 @@ use mathlib.Core.Bool.{Bool, true, false, _||_, cond}
 use mathlib.Core.List.{List, [], _∷_}
 use Prim.Native.Nat.{ℕ, suc, _+_}
 use lib.Dec.{eqb}
-use Rattle.counting.specs.Count.{bit}
-
--- in how many elements x is
-unfoldable pub times : List (ℕ → Bool) → ℕ → ℕ
-times [] x = 0
-times (p ∷ ps) x = bit (p x) + times ps x
-
--- the first element that has x
-unfoldable pub firstOf : List (ℕ → Bool) → ℕ → ℕ
-firstOf [] x = 0
-firstOf (p ∷ ps) x = cond (p x) 0 (suc (firstOf ps x))
+use Rattle.counting.specs.Elements.{times, firstOf}
 
 -- THE OWNER of x: 0 in no element, e + 1 in element e alone, 255 in two or more
 unfoldable pub owner : List (ℕ → Bool) → ℕ → ℕ

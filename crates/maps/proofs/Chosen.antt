@@ -8,12 +8,12 @@ use native.Mathlib.Omega.{arith}
 use Rattle.counting.specs.Count.{bit, countBelow}
 use Rattle.counting.specs.Periodic.{owns}
 use Rattle.counting.specs.Gather.{tabulated}
+use Rattle.counting.specs.Elements.{times}
 use Rattle.counting.proofs.Cases.{same-or-not}
 use Rattle.counting.proofs.Counts.{count-stop}
 use Rattle.families.specs.declared.Layout.{Layout}
 use Rattle.families.specs.Forest.{Forest, has, endOf, sizeOf, Sound}
 use Rattle.families.specs.Decoded.{familyAt, familyIn, forestAt, elementOf, treeOf, selections, rowOf, Layout·ok}
-use Rattle.families.specs.Owners.{times}
 use Rattle.families.proofs.Forests.{wf-wider, size-at, size-some}
 use Rattle.families.proofs.Steps.{step}
 use Rattle.families.proofs.Rows.{row-element}

@@ -6,10 +6,10 @@ use mathlib.Core.Logic.{⊎-elim}
 use Prim.Native.Nat.{ℕ, zero, suc, _+_, _-_, _≤_, _<_}
 use native.Mathlib.Omega.{arith}
 use Rattle.counting.specs.Periodic.{owns}
+use Rattle.counting.specs.Elements.{times}
 use Rattle.counting.proofs.Cases.{lt-or-le}
 use Rattle.counting.proofs.Counts.{count-zero, count-suc}
 use Rattle.families.specs.Decoded.{selections}
-use Rattle.families.specs.Owners.{times}
 use Rattle.sheets.specs.declared.Reading.{Reading}
 use Rattle.sheets.proofs.Accepted.{Accepted}
 use Rattle.sheets.proofs.Tiling.{file-none}

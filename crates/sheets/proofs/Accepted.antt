@@ -7,12 +7,12 @@ use lib.Dec.{ltb}
 use lib.ListN.{length}
 use borrow.Author.Tests.{eq-eqb, le-ltb, ltb-false}
 use Rattle.counting.specs.Periodic.{owns}
+use Rattle.counting.specs.Elements.{times}
 use Rattle.counting.proofs.Cases.{byTest}
 use Rattle.counting.proofs.Stretches.{stretch-is}
 use Rattle.families.specs.Forest.{Forest, has}
 use Rattle.families.specs.Decoded.{treesOf, selections, Layout·ok}
 use Rattle.families.specs.Flat.{All, layoutOf}
-use Rattle.families.specs.Owners.{times}
 use Rattle.families.proofs.Flats.{trees-back, selections-trees, layout-ok}
 use Rattle.sheets.specs.declared.Reading.{Reading}
 use Rattle.sheets.specs.Refusals.{Read, got, refused}

@@ -10,12 +10,12 @@ use lib.ListN.{length}
 use borrow.Author.Tests.{le-leb}
 use Rattle.counting.specs.Count.{countBelow}
 use Rattle.counting.specs.Periodic.{owns}
+use Rattle.counting.specs.Elements.{times}
 use Rattle.counting.proofs.Cases.{lt-or-le}
 use Rattle.counting.proofs.Counts.{count-zero, count-suc, count-mono}
 use Rattle.counting.proofs.Periods.{owns-none}
 use Rattle.families.specs.Forest.{Forest, nil, node, has, WF}
 use Rattle.families.specs.Flat.{width, depth, All}
-use Rattle.families.specs.Owners.{times}
 use Rattle.families.proofs.Forests.{end-le, size-at, count-most, size-some}
 use Rattle.families.proofs.Flats.{Shallow, Element·ok, all-if}
 use Rattle.sheets.specs.Pattern.{sizes, inElements, Tiled}

@@ -10,6 +10,7 @@ use lib.Dec.{eqb}
 use lib.ListN.{length, getD, length-map, List·getD-eq-default}
 use borrow.Author.Tests.{eq-eqb, ne-eqb, eqb-true, eqb-false, lt-ltb, le-ltb}
 use Rattle.counting.specs.Gather.{tabulated}
+use Rattle.counting.specs.Elements.{times}
 use Rattle.counting.proofs.Cases.{lt-or-le, same-or-not}
 use Rattle.counting.proofs.Stretches.{stretch-is, stretch-le, stretch-all, stretch-stop}
 use Rattle.counting.proofs.Gathers.{length-tabulated, getD-tabulated}
@@ -17,7 +18,7 @@ use Rattle.families.specs.declared.Layout.{Layout}
 use Rattle.families.specs.Forest.{Forest, has, WF}
 use Rattle.families.specs.Flat.{All}
 use Rattle.families.specs.Decoded.{treeOf, treesOf, selections, Layout·ok}
-use Rattle.families.specs.Owners.{times, owner}
+use Rattle.families.specs.Owners.{owner}
 use Rattle.families.proofs.Owning.{owner-none, owner-many}
 use Rattle.families.proofs.Flats.{selections-trees, ok-wider, trees-ok}
 use Rattle.sheets.specs.declared.pattern.Uneven.{Uneven}

@@ -5,8 +5,8 @@ use mathlib.Core.List.{List, [], _∷_, map}
 use Prim.Native.Nat.{ℕ, _+_, _<_}
 use lib.Dec.{eqb}
 use Rattle.counting.specs.Count.{stretch}
+use Rattle.counting.specs.Elements.{times}
 use Rattle.families.specs.Forest.{Forest, has, sizeOf}
-use Rattle.families.specs.Owners.{times}
 use Rattle.sheets.specs.Refusals.{HOLE, OVERLAP}
 
 -- THE PATTERN'S SIZE: the sum of the elements' sizes
