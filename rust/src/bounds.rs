@@ -1,16 +1,40 @@
 //! Sheets at and just past every bound of 01, and sheets with two faults: which of them is named is a rule too.
 
 use crate::figures::{layout_a, layout_f};
-use crate::frame::LONGEST_SHEET;
+use crate::frame::{Frame, LONGEST_BLOB};
 use crate::layout::{family, layout, run, Family, Layout, Siblings};
 use crate::sheet::{ELEMENT, FAMILY, HEADER};
 use crate::write::{bytes, records, sheet, Record};
 
 const MAX: u32 = u32::MAX;
 
-pub fn sheets() -> Vec<Vec<u8>> {
+/// Call 1 of each.
+pub fn frames() -> Vec<Frame> {
     let layouts = [segments(), spans(), orders(), depths(), covers(), counts()].concat();
     let damaged = [cuts(), fields(), many(), trailing(), long()].concat();
+    layouts.iter().map(sheet).chain(damaged).map(Frame::check).collect()
+}
+
+/// A refused sheet for every number but MANY, whose sheets are long, and for both flags: what the other calls are given.
+pub fn one_of_each() -> Vec<Vec<u8>> {
+    let f = sheet(&layout_f());
+    let changed = |place, change: fn(&mut Record)| changed(place, change)[0].clone();
+    let layouts = [
+        single(family(0, 1, 6, 1)),
+        single(run(0, 65_536)),
+        element(vec![family(0, 1, 6, 2), family(3, 3, 6, 2)]),
+        chain(5, run(0, 3)),
+        layout(vec![vec![run(0, 1)], vec![run(3, 3)]]),
+        layout(vec![vec![run(0, 1)], vec![run(1, 2)]]),
+    ];
+    let damaged = vec![
+        Vec::new(),
+        f[..f.len() - 1].to_vec(),
+        changed(1, |record| record.kind = FAMILY),
+        changed(2, |record| record.length = 22),
+        changed(0, |record| record.set_count(17)),
+        [f, vec![0]].concat(),
+    ];
     layouts.iter().map(sheet).chain(damaged).collect()
 }
 
@@ -281,9 +305,9 @@ fn trailing() -> Vec<Vec<u8>> {
 fn long() -> Vec<Vec<u8>> {
     let longest = sheet(&layout((0..16).map(|e| (0..16).map(|k| run(16 * e + k, 16 * e + k)).collect()).collect()));
     let mut followed = longest.clone();
-    followed.resize(LONGEST_SHEET, 0);
+    followed.resize(LONGEST_BLOB, 0);
     // An element that announces 65,535 families, and has thousands of them.
     let mut announced = records(&element((0..2_900).map(|x| run(x, x)).collect()));
     announced[1].set_count(65_535);
-    vec![followed, vec![0; LONGEST_SHEET], vec![255; LONGEST_SHEET - 1], bytes(&announced)]
+    vec![followed, vec![0; LONGEST_BLOB], vec![255; LONGEST_BLOB - 1], bytes(&announced)]
 }

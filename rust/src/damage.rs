@@ -1,9 +1,9 @@
 //! What can go wrong with a layout, with its records and with their bytes. A damaged sheet may still be an accepted one.
 
-use crate::frame::LONGEST_SHEET;
+use crate::frame::LONGEST_BLOB;
 use crate::layout::{count, run, Family, Layout, Siblings};
 use crate::random::Random;
-use crate::write::Record;
+use crate::write::{bytes, records, Record};
 
 /// Numbers at the edges of the fields and of the sheet's bounds.
 const EDGES: [u32; 12] = [0, 1, 2, 255, 256, 65_535, 65_536, 65_537, 1 << 31, (1 << 31) + 1, u32::MAX - 1, u32::MAX];
@@ -13,8 +13,32 @@ const KINDS: [u16; 7] = [0, 1, 2, 3, 4, 16, 65_535];
 const FAMILY_BODY: usize = 18;
 const LENGTHS: [u16; 10] = [0, 2, 4, 6, 8, 18, 19, 20, 22, 65_535];
 
+/// A sheet of the layout that is whole once in five times, and else has a fault or two of any sort.
+pub fn damaged(random: &mut Random, mut layout: Layout) -> Vec<u8> {
+    let mut faults = [0; 4];
+    for _ in 0..random.pick(&[0, 1, 1, 1, 2]) {
+        faults[random.pick(&[0, 0, 0, 0, 1, 1, 1, 1, 2, 2])] += 1;
+    }
+    faults[3] = u32::from(random.below(250) == 0);
+    for _ in 0..faults[0] {
+        damage_layout(random, &mut layout);
+    }
+    let mut list = records(&layout);
+    for _ in 0..faults[1] {
+        damage_records(random, &mut list);
+    }
+    let mut sheet = bytes(&list);
+    for _ in 0..faults[2] {
+        damage_bytes(random, &mut sheet);
+    }
+    for _ in 0..faults[3] {
+        lengthen(random, &mut sheet);
+    }
+    sheet
+}
+
 /// Faults that a sheet can still write down.
-pub fn damage_layout(random: &mut Random, layout: &mut Layout) {
+fn damage_layout(random: &mut Random, layout: &mut Layout) {
     match random.below(12) {
         0 => lose_element(random, layout),
         1 => double_element(random, layout),
@@ -152,7 +176,7 @@ fn add_many(random: &mut Random, layout: &mut Layout) {
 }
 
 /// Faults of single fields and of whole records.
-pub fn damage_records(random: &mut Random, records: &mut Vec<Record>) {
+fn damage_records(random: &mut Random, records: &mut Vec<Record>) {
     let place = random.index(records.len());
     let record = &mut records[place];
     match random.below(9) {
@@ -189,7 +213,7 @@ fn damage_numbers(random: &mut Random, records: &mut [Record]) {
 }
 
 /// Faults that know nothing of records.
-pub fn damage_bytes(random: &mut Random, bytes: &mut Vec<u8>) {
+fn damage_bytes(random: &mut Random, bytes: &mut Vec<u8>) {
     let place = random.index(bytes.len() + 1);
     match random.below(5) {
         0 | 1 => bytes.truncate(place),
@@ -204,8 +228,8 @@ pub fn damage_bytes(random: &mut Random, bytes: &mut Vec<u8>) {
 }
 
 /// Tens of thousands of bytes more, up to the longest sheet of a frame.
-pub fn lengthen(random: &mut Random, bytes: &mut Vec<u8>) {
-    let end = random.between(10_000, LONGEST_SHEET as u32) as usize;
+fn lengthen(random: &mut Random, bytes: &mut Vec<u8>) {
+    let end = random.between(10_000, LONGEST_BLOB as u32) as usize;
     let byte = random.pick(&[0, 1, 3, 255]);
     if bytes.len() < end {
         bytes.resize(end, byte);

@@ -1,13 +1,14 @@
-//! The figures of 01 that concern sheets, each with the answer that 01 prints: these are not computed.
+//! The figures of 01, each with the answer that 01 prints: these are not computed.
 
-use crate::frame::Answer;
+use crate::element::END;
+use crate::frame::{Answer, Frame, EXACT, INVERSE, NEXT};
 use crate::layout::{family, layout, run, Layout};
-use crate::refusal::{COVER, HOLE, NO_FLAG, ORDER, OVERLAP, SEGMENT, SHORT};
+use crate::refusal::{BEFORE, COVER, FAR, FOREIGN, HOLE, NO_FLAG, ORDER, OVERLAP, ROOM, SEGMENT, SHORT};
 use crate::write::sheet;
 
 pub struct Figure {
     pub name: &'static str,
-    pub sheet: Vec<u8>,
+    pub frame: Frame,
     pub answer: Answer,
 }
 
@@ -29,25 +30,30 @@ pub fn layout_c() -> Layout {
 }
 
 /// A layout with the inner family that 01 uses, its other bytes in a second element.
-fn inner_pairs() -> Layout {
+pub fn inner_pairs() -> Layout {
     let picked = family(0, 7, 16, 2).with(vec![family(0, 1, 4, 2)]);
     let others = vec![family(0, 7, 16, 2).with(vec![family(2, 3, 4, 2)]), run(24, 31)];
     // The gap between the two segments, 8 to 15, is an element of its own: siblings may not interlace.
     layout(vec![vec![picked], others, vec![run(8, 15)]])
 }
 
-fn inner_singles() -> Layout {
+pub fn inner_singles() -> Layout {
     let part = |inner| vec![family(0, 3, 8, 4).with(vec![inner])];
     layout(vec![part(family(0, 0, 2, 2)), part(family(1, 1, 2, 2)), vec![family(4, 7, 8, 4)]])
 }
 
+/// Every byte of the file is in the one element: a byte's file offset is its subfile offset and the displacement.
+pub fn whole_file(displacement: u32) -> Layout {
+    Layout { displacement, ..layout(vec![vec![run(0, 0)]]) }
+}
+
 fn accepted(name: &'static str, layout: &Layout, size: u64) -> Figure {
     let answer = Answer { value: size, value2: layout.elements.len() as u64, ..Answer::default() };
-    Figure { name, sheet: sheet(layout), answer }
+    Figure { name, frame: Frame::check(sheet(layout)), answer }
 }
 
 fn refused(name: &'static str, layout: &Layout, number: u8, place: u64, flag: u8) -> Figure {
-    Figure { name, sheet: sheet(layout), answer: Answer { number, sheet: 1, place, flag, ..Answer::default() } }
+    Figure { name, frame: Frame::check(sheet(layout)), answer: Answer { number, sheet: 1, place, flag, ..Answer::default() } }
 }
 
 /// The place of the first family's record, after a header of 10 bytes and an element record of 6, and of the family after it.
@@ -55,6 +61,11 @@ const FIRST: u64 = 10 + 6;
 const SECOND: u64 = FIRST + 22;
 
 pub fn figures() -> Vec<Figure> {
+    sheets().into_iter().chain(mappings()).chain(shared_runs()).collect()
+}
+
+/// Call 1.
+fn sheets() -> Vec<Figure> {
     let single = |one| layout(vec![vec![one]]);
     let empty = Answer { number: SHORT, sheet: 1, ..Answer::default() };
     vec![
@@ -70,6 +81,67 @@ pub fn figures() -> Vec<Figure> {
         refused("(0,1,1,2)", &single(family(0, 1, 1, 2)), SEGMENT, FIRST, NO_FLAG),
         refused("(0,1,6,1)", &single(family(0, 1, 6, 1)), SEGMENT, FIRST, NO_FLAG),
         refused("(0,1,6,2) then (3,3,6,2)", &layout(vec![vec![family(0, 1, 6, 2), family(3, 3, 6, 2)]]), ORDER, SECOND, NO_FLAG),
-        Figure { name: "the empty sheet", sheet: Vec::new(), answer: empty },
+        Figure { name: "the empty sheet", frame: Frame::check(Vec::new()), answer: empty },
+    ]
+}
+
+/// An answer of one value.
+fn value(value: u64) -> Answer {
+    Answer { value, ..Answer::default() }
+}
+
+/// A refusal of 12 to 17: no sheet is at fault, and there is no place.
+fn number(number: u8) -> Answer {
+    Answer { number, ..Answer::default() }
+}
+
+/// Calls 2 to 4.
+fn mappings() -> Vec<Figure> {
+    let of = |name, call, layout: &Layout, i, a, answer| Figure { name, frame: Frame::mapping(call, sheet(layout), i, a), answer };
+    let (f, c) = (layout_f(), layout_c());
+    vec![
+        of("F, element 1: exact mapping of 10", EXACT, &f, 1, 10, value(2)),
+        of("F, element 1: inverse of 2", INVERSE, &f, 1, 2, value(10)),
+        of("F, element 1: 6 is FOREIGN", EXACT, &f, 1, 6, number(FOREIGN)),
+        of("F, element 1: next mapping of 6", NEXT, &f, 1, 6, value(2)),
+        of("F, element 1: 1 is BEFORE", EXACT, &f, 1, 1, number(BEFORE)),
+        of("F, element 1: 1 is BEFORE in next mapping too", NEXT, &f, 1, 1, number(BEFORE)),
+        of("the panel: 9,864 in element 1", EXACT, &c, 1, 9_864, value(2_464)),
+        of("the panel: 2,464 of element 1", INVERSE, &c, 1, 2_464, value(9_864)),
+        of("16 has rank 4 in (0,7,16,2,{(0,1,4,2)})", EXACT, &inner_pairs(), 0, 16, value(4)),
+        of("16 has rank 4 in (0,3,8,4,{(0,0,2,2)})", EXACT, &inner_singles(), 0, 16, value(4)),
+        of("byte 2^64-1 is FAR", INVERSE, &f, 1, u64::MAX, number(FAR)),
+        of("the displacement pushes byte 2^40-1 past the end", INVERSE, &whole_file(1), 0, END - 1, number(FAR)),
+        of("byte 2^40-2 is the last before the end", INVERSE, &whole_file(1), 0, END - 2, value(END - 1)),
+    ]
+}
+
+/// A list of so many slots that are no run's: each names itself.
+pub fn slots(many: u64) -> Vec<u8> {
+    list(&(0..many).map(|slot| !slot).collect::<Vec<u64>>())
+}
+
+fn list(slots: &[u64]) -> Vec<u8> {
+    slots.iter().flat_map(|slot| slot.to_le_bytes()).collect()
+}
+
+/// Call 10, with a list of so many slots, on element 0 of both sheets. Where it answers some slots, those are at the list's front.
+fn shared_runs() -> Vec<Figure> {
+    let of = |name, [one, two]: [&Layout; 2], window, many, front: &[u64], answer: Answer| {
+        let before = slots(many);
+        let into = [list(front), before[list(front).len()..].to_vec()].concat();
+        Figure { name, frame: Frame::shared_runs([sheet(one), sheet(two)], [0, 0], window, before), answer: Answer { into, ..answer } }
+    };
+    let (a, b, pairs, singles) = (layout_a(), layout_b(), inner_pairs(), inner_singles());
+    let a_with_b = [&a, &b];
+    let both = [0, 1, 0, 0, 6, 1, 2, 3];
+    let room = Answer { place: 2, ..number(ROOM) };
+    vec![
+        of("A and B in [0,12): eight slots", a_with_b, (0, 12), 8, &both, value(2)),
+        of("A and B in [0,12): seven slots", a_with_b, (0, 12), 7, &[], room),
+        of("A and B in [0,12): nine slots, the last stays", a_with_b, (0, 12), 9, &both, value(2)),
+        of("the nested families share 0 and 16", [&pairs, &singles], (0, 32), 8, &[0, 1, 0, 0, 16, 1, 4, 4], value(2)),
+        of("the window end 2^40 is accepted", a_with_b, (END - 3, END), 4, &[], value(0)),
+        of("the window end 2^40+1 is FAR", a_with_b, (END - 3, END + 1), 4, &[], number(FAR)),
     ]
 }

@@ -1,18 +1,21 @@
 //! Frames and lines: how the program `answers` is asked, and what it prints.
 
-use crate::pattern::Pattern;
 use crate::refusal::Refusal;
-use crate::sheet;
 
-/// The calls by their number; only the first is there yet.
+/// The calls by their number. 6 to 9 and 11 are not there yet.
 pub const CHECK: u8 = 1;
+pub const EXACT: u8 = 2;
+pub const NEXT: u8 = 3;
+pub const INVERSE: u8 = 4;
+pub const INTERVAL_SPAN: u8 = 5;
+pub const SHARED_RUNS: u8 = 10;
 
 /// The most bytes that may follow a frame's first number.
 pub const MOST: usize = 65_532;
 /// Those of them that are no blob's: the call, four numbers and four lengths.
 const PLAIN: usize = 1 + 4 * 8 + 4 * 4;
-/// The longest sheet that a frame of one sheet holds.
-pub const LONGEST_SHEET: usize = MOST - PLAIN;
+/// The longest blob that a frame holds, where its other blobs are empty.
+pub const LONGEST_BLOB: usize = MOST - PLAIN;
 
 /// The line for what is no frame.
 pub const BAD: &str = "bad frame";
@@ -34,6 +37,22 @@ pub struct Frame {
 impl Frame {
     pub fn check(sheet: Vec<u8>) -> Frame {
         Frame { call: CHECK, sheet1: sheet, ..Frame::default() }
+    }
+
+    /// Exact or next mapping, where `a` is a file offset, or the inverse, where it is a subfile offset.
+    pub fn mapping(call: u8, sheet: Vec<u8>, i: u64, a: u64) -> Frame {
+        Frame { call, i, a, sheet1: sheet, ..Frame::default() }
+    }
+
+    /// The span of an interval with both ends meant.
+    pub fn interval_span(sheet: Vec<u8>, i: u64, (a, z): (u64, u64)) -> Frame {
+        Frame { call: INTERVAL_SPAN, i, a, b: z, sheet1: sheet, ..Frame::default() }
+    }
+
+    /// The runs that element i of sheet 1 and j of sheet 2 share in [a, b), for a list of 8 bytes a slot.
+    pub fn shared_runs(sheets: [Vec<u8>; 2], [i, j]: [u64; 2], (a, b): (u64, u64), list: Vec<u8>) -> Frame {
+        let [sheet1, sheet2] = sheets;
+        Frame { call: SHARED_RUNS, i, j, a, b, sheet1, sheet2, into: list, ..Frame::default() }
     }
 
     pub fn bytes(&self) -> Vec<u8> {
@@ -96,8 +115,13 @@ pub struct Answer {
 }
 
 impl Answer {
-    /// A refusal of the sheet named, with the destination as it was.
-    fn refused(refusal: Refusal, sheet: u8, frame: &Frame) -> Answer {
+    /// An accepted call that writes nothing: the destination is as it was.
+    pub fn accepted(frame: &Frame, value: u64, value2: u64) -> Answer {
+        Answer { value, value2, into: frame.into.clone(), ..Answer::default() }
+    }
+
+    /// A refusal of the sheet named, 0 where no sheet is at fault, with the destination as it was.
+    pub fn refused(frame: &Frame, sheet: u8, refusal: Refusal) -> Answer {
         let Refusal { number, place, flag } = refusal;
         Answer { number, sheet, place, flag, into: frame.into.clone(), ..Answer::default() }
     }
@@ -108,25 +132,5 @@ impl Answer {
             bytes => bytes.iter().map(|byte| format!("{byte:02x}")).collect(),
         };
         format!("{} {} {} {} {} {} {into}", self.number, self.sheet, self.place, self.flag, self.value, self.value2)
-    }
-}
-
-/// The answer that 01 asks for.
-pub fn answer(frame: &Frame) -> Answer {
-    match frame.call {
-        CHECK => check(frame),
-        other => unreachable!("no frame of this program has the call {other}"),
-    }
-}
-
-fn check(frame: &Frame) -> Answer {
-    match sheet::read(&frame.sheet1) {
-        Err(refusal) => Answer::refused(refusal, 1, frame),
-        Ok(layout) => Answer {
-            value: Pattern::of(&layout).size() as u64,
-            value2: layout.elements.len() as u64,
-            into: frame.into.clone(),
-            ..Answer::default()
-        },
     }
 }

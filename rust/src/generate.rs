@@ -1,46 +1,50 @@
-//! The frames: the figures of 01, the sheets at the bounds, and as many by chance as are asked for.
+//! The frames: of each call the figures of 01 and the edges, and as many by chance as are asked for.
 
-use crate::bounds;
-use crate::damage::{damage_bytes, damage_layout, damage_records, lengthen};
 use crate::figures::{figures, layout_f};
-use crate::frame::{Frame, LONGEST_SHEET, MOST};
+use crate::frame::{self, Frame, CHECK, LONGEST_BLOB, MOST};
 use crate::random::Random;
-use crate::shapes;
-use crate::write::{bytes, records, sheet};
+use crate::write::sheet;
+use crate::{bounds, chance, edges, windows};
+
+/// The calls that frames are made of, `CHECK` first: those that the program `answers` has. `calls::KNOWN` may have more, which are added here once
+/// `answers` has them, and the kept frames are made anew.
+pub const CALLS: &[u8] = &[CHECK, frame::EXACT, frame::NEXT, frame::INVERSE, frame::INTERVAL_SPAN, frame::SHARED_RUNS];
 
 /// The seed and count of the frames that are kept beside the program `answers`. The seed also picks their bad end: one that is too long.
-pub const KEPT: (u64, usize) = (2014, 720);
+pub const KEPT: (u64, usize) = (2014, 1_250);
 
-/// The frames of a seed. The first ones do not depend on it.
-pub fn frames(seed: u64, count: usize) -> Vec<Frame> {
-    let random = &mut Random::new(seed);
-    let fixed = figures().into_iter().map(|figure| figure.sheet).chain(bounds::sheets());
-    fixed.chain((0..count).map(|_| chance(random))).map(Frame::check).collect()
+/// The frames of a seed, call by call. Of each call the first ones do not depend on the seed.
+pub fn frames(calls: &[u8], seed: u64, count: usize) -> Vec<Frame> {
+    let fixed = fixed();
+    let mut out = Vec::new();
+    for (place, call) in calls.iter().enumerate() {
+        out.extend(fixed.iter().filter(|frame| frame.call == *call).cloned());
+        out.extend(by_chance(*call, seed, share(place, calls.len(), count)));
+    }
+    out
 }
 
-/// A sheet that is whole once in five times, and else has a fault or two of any sort.
-fn chance(random: &mut Random) -> Vec<u8> {
-    let mut layout = shapes::any(random);
-    let mut faults = [0; 4];
-    for _ in 0..random.pick(&[0, 1, 1, 1, 2]) {
-        faults[random.pick(&[0, 0, 0, 0, 1, 1, 1, 1, 2, 2])] += 1;
+/// The figures and edges of all calls.
+fn fixed() -> Vec<Frame> {
+    let figures = figures().into_iter().map(|figure| figure.frame);
+    figures.chain(bounds::frames()).chain(edges::frames()).chain(windows::frames()).collect()
+}
+
+/// How many of `count` frames the call at a place of the list has: the first one half of them, since every call reads sheets and they can
+/// go wrong in the most ways, the others the same number each, or one less.
+fn share(place: usize, calls: usize, count: usize) -> usize {
+    let others = calls - 1;
+    let half = if others == 0 { 0 } else { count / 2 };
+    match place {
+        0 => count - half,
+        _ => (half + others - place) / others,
     }
-    faults[3] = u32::from(random.below(250) == 0);
-    for _ in 0..faults[0] {
-        damage_layout(random, &mut layout);
-    }
-    let mut list = records(&layout);
-    for _ in 0..faults[1] {
-        damage_records(random, &mut list);
-    }
-    let mut sheet = bytes(&list);
-    for _ in 0..faults[2] {
-        damage_bytes(random, &mut sheet);
-    }
-    for _ in 0..faults[3] {
-        lengthen(random, &mut sheet);
-    }
-    sheet
+}
+
+/// Each call has numbers of its own: they stay the same whatever other calls there are.
+pub fn by_chance(call: u8, seed: u64, count: usize) -> Vec<Frame> {
+    let random = &mut Random::new(seed ^ u64::from(call - CHECK) << 56);
+    (0..count).map(|_| chance::frame(random, call)).collect()
 }
 
 /// Where a frame has its call and the length of its first sheet.
@@ -69,10 +73,10 @@ pub fn bad_end(seed: u64) -> Vec<u8> {
         }
         // A frame that would be whole but for its length.
         7 => {
-            bad = Frame::check(vec![0; LONGEST_SHEET]).bytes();
+            bad = Frame::check(vec![0; LONGEST_BLOB]).bytes();
             bad.push(0);
             set(&mut bad, 0, MOST + 1);
-            set(&mut bad, LENGTH_1, LONGEST_SHEET + 1);
+            set(&mut bad, LENGTH_1, LONGEST_BLOB + 1);
         }
         // An unknown call.
         _ => bad[CALL] = 200,

@@ -1,10 +1,15 @@
 //! A second reading of the paper 01, from its definitions alone and with no line of the library's code, to compare the library with.
 //!
-//! `sheet` and `pattern` answer; `write` makes sheets; `shapes`, `damage`, `bounds` and `figures` are what is asked, put together by
-//! `generate`; `frame` is how it is asked and answered; `spelled` says a frame in words.
+//! `calls` answers, by way of `sheet`, `pattern`, `element` and `runs`; `write` makes sheets. What is asked are the `figures`, sheets at
+//! the `bounds`, calls at the `edges`, shared runs in `windows`, and calls by `chance` with sheets of all `shapes` and every `damage`, put
+//! together by `generate`. `frame` is how it is asked and answered; `spelled` says a frame in words.
 
 pub mod bounds;
+pub mod calls;
+pub mod chance;
 pub mod damage;
+pub mod edges;
+pub mod element;
 pub mod figures;
 pub mod frame;
 pub mod generate;
@@ -12,7 +17,9 @@ pub mod layout;
 pub mod pattern;
 pub mod random;
 pub mod refusal;
+pub mod runs;
 pub mod shapes;
 pub mod sheet;
 pub mod spelled;
+pub mod windows;
 pub mod write;

@@ -1,6 +1,7 @@
 //! Makes frames with the lines that 01 asks for, and compares lines with them.
 
-use comparison::frame::{answer, Frame, BAD};
+use comparison::calls::answer;
+use comparison::frame::{Frame, BAD};
 use comparison::{generate, spelled};
 use std::error::Error;
 use std::fs;
@@ -40,7 +41,7 @@ fn parsed(seed: &str, count: &str) -> Done<(u64, usize)> {
 fn write_frames((seed, count): (u64, usize), frames_file: &str, lines_file: &str) -> Done<()> {
     let mut bytes = Vec::new();
     let mut lines = String::new();
-    for frame in generate::frames(seed, count) {
+    for frame in generate::frames(generate::CALLS, seed, count) {
         bytes.extend(frame.bytes());
         lines += &answer(&frame).line();
         lines.push('\n');
@@ -65,9 +66,8 @@ fn compare(frames_file: &str, expected_file: &str, printed_file: &str) -> Done<(
         let got = printed.get(index).copied();
         let frame = Frame::read(rest);
         if got != Some(line) {
-            let asked = frame.map_or(String::from("bytes that are no frame\n"), |(frame, _)| spelled::frame(&frame));
-            let got = got.map_or(String::from("nothing: the lines end"), spelled::line);
-            return Err(format!("frame {index}: {asked}  expected {}\n  printed  {got}", spelled::line(line)).into());
+            let asked = frame.as_ref().map(|(frame, _)| frame);
+            return Err(format!("frame {index}: {}", spelled::difference(asked, line, got)).into());
         }
         rest = frame.map_or(rest, |(_, rest)| rest);
     }

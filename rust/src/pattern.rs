@@ -24,6 +24,11 @@ impl Pattern {
         self.elements.iter().flatten().filter(|selected| **selected).count()
     }
 
+    /// Whether an element selects each offset from 0 to P-1.
+    pub fn selected(&self, element: usize) -> Vec<bool> {
+        (0..self.size()).map(|x| self.elements[element].get(x) == Some(&true)).collect()
+    }
+
     /// How many elements select x.
     fn owners(&self, x: usize) -> usize {
         self.elements.iter().filter(|element| element.get(x) == Some(&true)).count()

@@ -22,6 +22,16 @@ impl Random {
         (self.word() % u64::from(bound)) as u32
     }
 
+    /// The same for bounds that 32 bits do not hold.
+    pub fn long_below(&mut self, bound: u64) -> u64 {
+        self.word() % bound
+    }
+
+    /// Once in so many times.
+    pub fn once_in(&mut self, times: u32) -> bool {
+        self.below(times) == 0
+    }
+
     /// A number from `low` to `high`, both meant.
     pub fn between(&mut self, low: u32, high: u32) -> u32 {
         low + self.below(high - low + 1)

@@ -11,14 +11,39 @@ pub const ORDER: u8 = 8;
 pub const DEPTH: u8 = 9;
 pub const TRAILING: u8 = 10;
 pub const COVER: u8 = 11;
+pub const ELEMENT: u8 = 12;
+pub const BEFORE: u8 = 13;
+pub const FAR: u8 = 14;
+pub const WINDOW: u8 = 15;
+pub const FOREIGN: u8 = 16;
+pub const ROOM: u8 = 18;
 
 pub const NO_FLAG: u8 = 0;
 pub const HOLE: u8 = 1;
 pub const OVERLAP: u8 = 2;
 
-/// What stands in 01's table under each number; number 0 is an accepted sheet.
-pub const NAMES: [&str; 12] =
-    ["accepted", "SHORT", "KIND", "LENGTH", "COUNT", "MANY", "SEGMENT", "SPAN", "ORDER", "DEPTH", "TRAILING", "HOLE or OVERLAP"];
+/// What stands in 01's table under each number; number 0 is an accepted call.
+pub const NAMES: [&str; 19] = [
+    "accepted",
+    "SHORT",
+    "KIND",
+    "LENGTH",
+    "COUNT",
+    "MANY",
+    "SEGMENT",
+    "SPAN",
+    "ORDER",
+    "DEPTH",
+    "TRAILING",
+    "HOLE or OVERLAP",
+    "ELEMENT",
+    "BEFORE",
+    "FAR",
+    "WINDOW",
+    "FOREIGN",
+    "BUFFER",
+    "ROOM",
+];
 
 #[derive(Clone, Copy, Debug, PartialEq, Eq)]
 pub struct Refusal {
@@ -28,7 +53,7 @@ pub struct Refusal {
 }
 
 impl Refusal {
-    /// A refusal of 1 to 10, at a place of the sheet.
+    /// A refusal without a flag: of 1 to 10 at a place of the sheet, of 12 to 18 at the place that 01's table gives.
     pub fn at(number: u8, place: usize) -> Refusal {
         Refusal { number, place: place as u64, flag: NO_FLAG }
     }

@@ -1,18 +1,52 @@
 //! A frame and a line in words, for a person who looks at a difference.
 
-use crate::frame::{Frame, CHECK};
+use crate::frame::{Frame, CHECK, EXACT, INTERVAL_SPAN, INVERSE, NEXT, SHARED_RUNS};
 use crate::refusal::{HOLE, NAMES, OVERLAP};
 use crate::sheet::{ELEMENT, FAMILY, HEADER};
 
 /// Records of a sheet that are spelled out; the others are only counted in bytes.
 const MOST_RECORDS: usize = 40;
+/// Characters of a line or bytes of a blob that are shown.
+const MOST_SHOWN: usize = 160;
+const MOST_BYTES_SHOWN: usize = 48;
 
-pub fn frame(frame: &Frame) -> String {
-    let call = match frame.call {
+/// What was asked, if it was a frame, what was to be printed, and what was, if anything.
+pub fn difference(asked: Option<&Frame>, expected: &str, printed: Option<&str>) -> String {
+    let asked = asked.map_or(String::from("bytes that are no frame\n"), frame);
+    let got = printed.map_or(String::from("nothing: the lines end"), line);
+    let differing = printed.and_then(|printed| buffers(expected, printed)).map_or(String::new(), |place| format!("\n  {place}"));
+    format!("{asked}  expected {}\n  printed  {got}{differing}", line(expected))
+}
+
+fn frame(frame: &Frame) -> String {
+    let mut out = call(frame) + "\n";
+    out += &format!("  sheet 1, {} bytes\n{}", frame.sheet1.len(), sheet(&frame.sheet1));
+    if frame.call == SHARED_RUNS {
+        out += &format!("  sheet 2, {} bytes\n{}", frame.sheet2.len(), sheet(&frame.sheet2));
+        out += &format!("  the list before the call, {} bytes: {}\n", frame.into.len(), shown(&frame.into));
+    }
+    out
+}
+
+/// What is asked, in the words of 01.
+fn call(Frame { call, i, j, a, b, into, .. }: &Frame) -> String {
+    match *call {
         CHECK => String::from("check"),
+        EXACT => format!("exact mapping of file offset {a} in element {i}"),
+        NEXT => format!("next mapping of file offset {a} in element {i}"),
+        INVERSE => format!("inverse: the file offset of byte {a} of element {i}"),
+        INTERVAL_SPAN => format!("interval span from file offset {a} to {b}, both meant, in element {i}"),
+        SHARED_RUNS => {
+            let slots = into.len() / 8;
+            format!("shared runs of element {i} of sheet 1 and element {j} of sheet 2 in the window [{a}, {b}), a list of {slots} slots")
+        }
         other => format!("call {other}"),
-    };
-    format!("{call} of a sheet of {} bytes\n{}", frame.sheet1.len(), sheet(&frame.sheet1))
+    }
+}
+
+fn shown(bytes: &[u8]) -> String {
+    let shown: Vec<String> = bytes.iter().take(MOST_BYTES_SHOWN).map(|byte| format!("{byte:02x}")).collect();
+    shown.join(" ") + if bytes.len() > MOST_BYTES_SHOWN { " .." } else { "" }
 }
 
 /// The records as they follow each other by their length fields, whether they are expected or not.
@@ -26,8 +60,7 @@ fn sheet(bytes: &[u8]) -> String {
     }
     let rest = &bytes[at..];
     if !rest.is_empty() {
-        let shown: Vec<String> = rest.iter().take(48).map(|byte| format!("{byte:02x}")).collect();
-        out += &format!("    at {at}: {} bytes more, {}\n", rest.len(), shown.join(" "));
+        out += &format!("    at {at}: {} bytes more, {}\n", rest.len(), shown(rest));
     }
     out
 }
@@ -50,10 +83,10 @@ fn record(bytes: &[u8], at: usize) -> Option<(String, usize)> {
 }
 
 /// A line with the name of its number.
-pub fn line(line: &str) -> String {
+fn line(line: &str) -> String {
     let fields: Vec<&str> = line.split(' ').collect();
     let [number, sheet, place, flag, value, value2, into] = fields[..] else {
-        return format!("'{line}'");
+        return format!("'{}'", cut(line));
     };
     let named = number.parse::<usize>().ok().and_then(|number| NAMES.get(number));
     let name = named.copied().unwrap_or("a number of no refusal");
@@ -63,5 +96,30 @@ pub fn line(line: &str) -> String {
         Ok(OVERLAP) => ", overlap",
         _ => ", a flag that does not exist",
     };
-    format!("'{line}': {name}{flag}; sheet {sheet}, place {place}, values {value} and {value2}, buffer {into}")
+    let buffer = if into == "-" { String::from("no buffer") } else { format!("a buffer of {} bytes", into.len() / 2) };
+    format!("'{}': {name}{flag}; sheet {sheet}, place {place}, values {value} and {value2}, {buffer}", cut(line))
+}
+
+/// A line may have a hundred thousand digits.
+fn cut(line: &str) -> String {
+    let mut out: String = line.chars().take(MOST_SHOWN).collect();
+    if out.len() < line.len() {
+        out += "..";
+    }
+    out
+}
+
+/// Where the buffers of two lines first differ, if they do, in bytes and in slots of 8 bytes; with the slot's number in either.
+fn buffers(expected: &str, printed: &str) -> Option<String> {
+    let (expected, printed) = (expected.split(' ').nth(6)?, printed.split(' ').nth(6)?);
+    let digits = expected.len().max(printed.len());
+    let byte = (0..digits).find(|place| expected.as_bytes().get(*place) != printed.as_bytes().get(*place))? / 2;
+    let slot = byte / 8;
+    Some(format!("the buffers differ at byte {byte}: slot {slot} is to be {}, and is {}", number(expected, slot), number(printed, slot)))
+}
+
+/// The number in a slot, from digits that have its lowest byte first.
+fn number(buffer: &str, slot: usize) -> String {
+    let Some(digits) = buffer.get(16 * slot..16 * slot + 16) else { return String::from("no whole slot") };
+    u64::from_str_radix(digits, 16).map_or(format!("'{digits}'"), |number| number.swap_bytes().to_string())
 }

@@ -1,7 +1,7 @@
 //! The figures of 01, and the order in which it names faults, with the answers that the paper gives.
 
+use comparison::calls::answer;
 use comparison::figures::{figures, layout_f};
-use comparison::frame::{answer, Frame};
 use comparison::layout::{family, layout, run, Family, Layout};
 use comparison::refusal::{Refusal, COUNT, COVER, DEPTH, HOLE, KIND, LENGTH, MANY, ORDER, OVERLAP, SEGMENT, SHORT, SPAN, TRAILING};
 use comparison::sheet::read;
@@ -10,7 +10,7 @@ use comparison::write::{bytes, records, sheet, Record};
 #[test]
 fn every_figure_is_as_printed() {
     for figure in figures() {
-        assert_eq!(answer(&Frame::check(figure.sheet)), figure.answer, "{}", figure.name);
+        assert_eq!(answer(&figure.frame), figure.answer, "{}", figure.name);
     }
 }
 
