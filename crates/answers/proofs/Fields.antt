@@ -1,7 +1,7 @@
--- A line is its numbers, put one after the other, and its end. Assumes nothing.
-use mathlib.Core.Path.{_≡_, refl, ap, _∙_}
+-- Pieces that are put one after the other: a number, an answer's six, and the whole line. Assumes nothing.
+use mathlib.Core.Path.{_≡_, ap, _∙_}
 use mathlib.Core.List.{List, [], _∷_, _++_, append-assoc}
-use Prim.Native.Nat.{ℕ, suc, _+_, _≤_}
+use Prim.Native.Nat.{ℕ, _+_, _≤_, _<_}
 use native.Mathlib.Numerals.{add-one}
 use native.Mathlib.Omega.{arith}
 use lib.ListN.{length, take, set, length-set}
@@ -9,7 +9,7 @@ use lib.Seq.{paste, length-paste, take-suc-set}
 use Rattle.io.specs.Counts.{Counts}
 use Rattle.io.proofs.Counting.{counts}
 use Rattle.answers.specs.declared.lines.Answer.{Answer}
-use Rattle.answers.specs.Lines.{decimal, field, line, Put}
+use Rattle.answers.specs.Lines.{decimal, field, fields, buffer, line, Put}
 use Rattle.answers.proofs.Texts.{put-then}
 
 -- a number's digits and a space are put
@@ -21,42 +21,40 @@ module _ (n at k : ℕ) (text piece : List ℕ) (few : k ≤ 20) (room : at + 21
   field-kept : length (set (paste text at piece (length piece)) (at + k) 32) ≡ length text
   field-kept = length-set (paste text at piece (length piece)) (at + k) 32 ∙ length-paste text at piece (length piece) (omega arith) (omega arith)
 
-  pub put-field : {after : List ℕ} → after ≡ paste text at piece (length piece) → Put n at (at + k + 1) text (set after (at + k) 32)
+  pub put-field : {after : List ℕ} → after ≡ paste text at piece (length piece) → Put (field n) 21 at (at + k + 1) text (set after (at + k) 32)
   put-field e = record { text = rw e field-text; short = omega arith; kept = rw e field-kept }
 
--- what follows a field follows what stood before it and the field
-then : {n at r : ℕ} {before after : List ℕ} → Put n at r before after → (rest : List ℕ) → take r after ++ rest ≡ take at before ++ (field n ++ rest)
-then {n} {at} {r} {before} {after} p rest = rw (p .text, append-assoc) refl
+-- one byte more is put
+pub put-byte : (b at : ℕ) (text : List ℕ) → at < length text → Put (b ∷ []) 1 at (at + 1) text (set text at b)
+put-byte b at text h = record { text = rw add-one (take-suc-set text at b h); short = omega arith; kept = length-set text at b }
 
--- the six numbers of an answer are put, and end at e
-pub record Numbers (a : Answer) (e : ℕ) (before after : List ℕ) : Type 0 where
-  pub text : take e after ++ (45 ∷ 10 ∷ []) ≡ line a
-  pub room : e + 2 ≤ length after
-  pub kept : length after ≡ length before
+-- a piece, and a second behind it
+infixr 20 _then_
+pub _then_ : {p q : List ℕ} {j k at m r : ℕ} {before between after : List ℕ} → Put p j at m before between → Put q k m r between after
+    → Put (p ++ q) (j + k) at r before after
+_then_ {p} {q} {j} {k} {at} x y =
+    record {
+      text = y .text ∙ ap (λ (front : List ℕ). front ++ q) (x .text) ∙ append-assoc (take at _) p q;
+      short = omega (arith, x .short, y .short);
+      kept = y .kept ∙ x .kept;
+    }
 
-module _ (a : Answer) {e1 e2 e3 e4 e5 e6 : ℕ} {t0 t1 t2 t3 t4 t5 t6 : List ℕ} (room : 128 ≤ length t0)
-    (p1 : Put (a .number) 0 e1 t0 t1) (p2 : Put (a .sheet) e1 e2 t1 t2) (p3 : Put (a .place) e2 e3 t2 t3)
-    (p4 : Put (a .flag) e3 e4 t3 t4) (p5 : Put (a .value) e4 e5 t4 t5) (p6 : Put (a .value2) e5 e6 t5 t6) where
-  numbers-text : take e6 t6 ++ (45 ∷ 10 ∷ []) ≡ line a
+-- the six numbers of an answer
+pub put-fields : (a : Answer) {e1 e2 e3 e4 e5 e6 : ℕ} {t0 t1 t2 t3 t4 t5 t6 : List ℕ} → Put (field (a .number)) 21 0 e1 t0 t1
+    → Put (field (a .sheet)) 21 e1 e2 t1 t2 → Put (field (a .place)) 21 e2 e3 t2 t3 → Put (field (a .flag)) 21 e3 e4 t3 t4
+    → Put (field (a .value)) 21 e4 e5 t4 t5 → Put (field (a .value2)) 21 e5 e6 t5 t6 → Put (fields a) 126 0 e6 t0 t6
+unfolding fields
+put-fields a p1 p2 p3 p4 p5 p6 = p1 then (p2 then (p3 then (p4 then (p5 then p6))))
+
+-- with the buffer and the end of a line they are the line
+module _ (a : Answer) (into : List ℕ) {most m e : ℕ} {t0 t1 t2 : List ℕ} (p : Put (fields a) 126 0 m t0 t1) (q : Put (buffer into) most m e t1 t2)
+    (room : e < length t2) where
+  put-end : Put (line a into) (126 + (most + 1)) 0 (e + 1) t0 (set t2 e 10)
   unfolding line
-  numbers-text = then p6 _ ∙ then p5 _ ∙ then p4 _ ∙ then p3 _ ∙ then p2 _ ∙ then p1 _
+  put-end = p then (q then put-byte 10 e t2 room)
 
-  pub numbers : Numbers a e6 t0 t6
-  numbers = record { text = numbers-text; room = omega arith; kept = omega arith }
+  pub line-is : (take (e + 1) (set t2 e 10) ≡ line a into) × Counts (e + 1) (set t2 e 10)
+  line-is = (put-end .text, counts (e + 1) (set t2 e 10) (rw length-set (omega arith)))
 
--- with the end of a line they are the line
-module _ {a : Answer} {e : ℕ} {before after : List ℕ} (p : Numbers a e before after) where
-  pub line-kept : length (set (set after e 45) (e + 1) 10) ≡ length before
-  line-kept = rw (length-set, length-set) (p .kept)
-
-  pub line-counts : Counts (e + 2) (set (set after e 45) (e + 1) 10)
-  line-counts = counts (e + 2) (set (set after e 45) (e + 1) 10) (rw (length-set, length-set) (p .room))
-
-  pub line-is : take (e + 2) (set (set after e 45) (e + 1) 10) ≡ line a
-  line-is =
-      let two : e + 2 ≡ suc (suc e) = omega arith in
-      rw (two, add-one)
-      (take-suc-set (set after e 45) (suc e) 10 (rw length-set (omega arith))
-      ∙ ap (λ (front : List ℕ). front ++ (10 ∷ [])) (take-suc-set after e 45 (omega arith))
-      ∙ append-assoc (take e after) (45 ∷ []) (10 ∷ [])
-      ∙ p .text)
+  pub line-kept : length (set t2 e 10) ≡ length t0
+  line-kept = put-end .kept

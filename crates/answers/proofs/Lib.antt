@@ -2,5 +2,8 @@ pub mod Ends
 pub mod Texts
 pub mod Decimals
 pub mod Fields
+pub mod Hexes
+pub mod Slots
+pub mod Unwritten
 pub mod Replies
 pub mod Figures

@@ -1,11 +1,11 @@
 -- Pieces put into a text one after the other. Assumes nothing.
 use mathlib.Core.Path.{_≡_, refl, ap, _∙_}
-use mathlib.Core.List.{List, [], _∷_, _++_, append-assoc}
+use mathlib.Core.List.{List, [], _∷_, _++_, append-nil, append-assoc}
 use Prim.Native.Nat.{ℕ, suc, _+_, _≤_, _<_}
 use native.Mathlib.Numerals.{add-one}
 use native.Mathlib.Omega.{arith}
 use lib.ListN.{length, take, set, getD}
-use lib.Seq.{paste, paste-zero, paste-suc, length-paste, take-paste, take-length, take-suc-set}
+use lib.Seq.{paste, paste-zero, paste-suc, length-paste, take-paste, take-length, take-suc-set, drop-length}
 
 -- i bytes of the piece are put
 pub record Pasted (text : List ℕ) (at : ℕ) (piece : List ℕ) (i : ℕ) (here : List ℕ) : Type 0 where
@@ -38,3 +38,7 @@ put-then text at piece last room =
     take-suc-set (paste text at piece (length piece)) (at + length piece) last (omega arith)
     ∙ ap (λ (front : List ℕ). front ++ (last ∷ [])) (take-paste text at piece (length piece) (omega arith) (omega arith))
     ∙ rw (take-length, append-assoc) refl
+
+-- a piece that is put over all of a text
+pub paste-over : (text piece : List ℕ) → length piece ≡ length text → paste text 0 piece (length piece) ≡ piece
+paste-over text piece e = let all : 0 + length piece ≡ length text = omega arith in rw (take-length, all, drop-length, append-nil) refl

@@ -1,3 +1,4 @@
+pub mod Numbers
 pub mod Frames
 pub mod Lines
 pub mod Replies

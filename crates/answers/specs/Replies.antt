@@ -3,23 +3,128 @@ use mathlib.Core.Bool.{cond}
 use mathlib.Core.List.{List, []}
 use Prim.Native.Nat.{ℕ}
 use lib.Dec.{eqb}
-use lib.ListN.{length, getD}
+use lib.ListN.{length}
+use Rattle.astrephon.specs.declared.Refusal.{Refusal}
 use Rattle.astrephon.specs.declared.Checked.{Checked}
-use Rattle.astrephon.specs.declared.Checked.the-variants.{Accepted, Refused}
+use Rattle.astrephon.specs.declared.Checked.the-variants as checked
+use Rattle.astrephon.specs.declared.Mapped.{Mapped}
+use Rattle.astrephon.specs.declared.Mapped.the-variants as mapped
+use Rattle.astrephon.specs.declared.Located.{Located}
+use Rattle.astrephon.specs.declared.Located.the-variants as located
+use Rattle.astrephon.specs.declared.Spanned.{Spanned}
+use Rattle.astrephon.specs.declared.Spanned.the-variants as spanned
+use Rattle.astrephon.specs.declared.Listed.{Listed}
+use Rattle.astrephon.specs.declared.Listed.the-variants as listed
+use Rattle.astrephon.specs.Refusals.{Outcome}
 use Rattle.astrephon.specs.Check.{checkCall}
+use Rattle.astrephon.specs.Maps.{exactCall, nextCall, inverseCall, spanCall}
+use Rattle.astrephon.specs.Shares.{sharedCall}
 use Rattle.answers.specs.declared.lines.Answer.{Answer}
-use Rattle.answers.specs.Frames.{end4, sheet1}
+use Rattle.answers.specs.declared.calls.Reply.{Reply}
+use Rattle.answers.specs.declared.calls.Reply.the-variants.{Told, Unknown}
+use Rattle.answers.specs.Frames.{callOf, iOf, jOf, aOf, bOf, end4, sheet1, sheet2, intoOf}
+use Rattle.answers.specs.Numbers.{slotsOf, withSlots}
 use Rattle.answers.specs.Lines.{line}
 
--- call 1: an accepted sheet's values are its pattern's size and how many elements it has
+-- a call that did its work and gives two values, and one that was refused
+abbrev pub done : (value value2 : ℕ) → Answer
+done value value2 = record { number = 0; sheet = 0; place = 0; flag = 0; value = value; value2 = value2 }
+
+abbrev pub refused : Refusal → Answer
+refused r = record { number = r .number; sheet = r .sheet; place = r .place; flag = r .flag; value = 0; value2 = 0 }
+
+-- an accepted sheet's values are its pattern's size and how many elements it has
 unfoldable pub ofChecked : Checked → Answer
-ofChecked (Accepted f) = record { number = 0; sheet = 0; place = 0; flag = 0; value = f .size; value2 = f .elements }
-ofChecked (Refused r) = record { number = r .number; sheet = r .sheet; place = r .place; flag = r .flag; value = 0; value2 = 0 }
+ofChecked (checked.Accepted f) = done (f .size) (f .elements)
+ofChecked (checked.Refused r) = refused r
 
--- the line of a call's answer, and nothing where there is no such call
-unfoldable pub callLine : (call : ℕ) → (frame : List ℕ) → List ℕ
-callLine call xs = cond (eqb call 1) (line (ofChecked (checkCall (sheet1 xs)))) []
+-- a mapping's value is the offset that it gives, a span's are its first and its last
+unfoldable pub ofMapped : Mapped → Answer
+ofMapped (mapped.At y) = done (y .0) 0
+ofMapped (mapped.Refused r) = refused r
 
--- THE REPLY to the bytes of a frame, and nothing where they are not one: then `bad frame` is printed
+unfoldable pub ofLocated : Located → Answer
+ofLocated (located.At x) = done (x .0) 0
+ofLocated (located.Refused r) = refused r
+
+unfoldable pub ofSpanned : Spanned → Answer
+ofSpanned (spanned.Range first last) = done (first .0) (last .0)
+ofSpanned (spanned.Refused r) = refused r
+
+-- the value of shared runs is how many the list holds
+unfoldable pub ofListed : Listed → Answer
+ofListed (listed.Runs n) = done n 0
+ofListed (listed.Refused r) = refused r
+
+-- the calls' numbers
+abbrev pub CHECK : ℕ
+CHECK = 1
+
+abbrev pub EXACT : ℕ
+EXACT = 2
+
+abbrev pub NEXT : ℕ
+NEXT = 3
+
+abbrev pub INVERSE : ℕ
+INVERSE = 4
+
+abbrev pub SPAN : ℕ
+SPAN = 5
+
+abbrev pub SHARED-RUNS : ℕ
+SHARED-RUNS = 10
+
+-- what the calls that write no buffer answer to a frame
+abbrev pub checkAnswer : List ℕ → Answer
+checkAnswer xs = ofChecked (checkCall (sheet1 xs))
+
+abbrev pub exactAnswer : List ℕ → Answer
+exactAnswer xs = ofMapped (exactCall (sheet1 xs) (iOf xs) (aOf xs))
+
+abbrev pub nextAnswer : List ℕ → Answer
+nextAnswer xs = ofMapped (nextCall (sheet1 xs) (iOf xs) (aOf xs))
+
+abbrev pub inverseAnswer : List ℕ → Answer
+inverseAnswer xs = ofLocated (inverseCall (sheet1 xs) (iOf xs) (aOf xs))
+
+abbrev pub spanAnswer : List ℕ → Answer
+spanAnswer xs = ofSpanned (spanCall (sheet1 xs) (iOf xs) (aOf xs) (bOf xs))
+
+-- an answer, and what the destination buffer holds after the call
+abbrev pub leaving : {A : Type 0} → A → (later : List ℕ) → Outcome A
+leaving answer later = record { answer = answer; later = later }
+
+-- shared runs: the list is the buffer's whole slots. What the call leaves in them is put back; bytes behind the last whole slot stay
+abbrev pub listing : List ℕ → (slots : List ℕ) → Outcome Listed
+listing xs slots = sharedCall (sheet1 xs) (sheet2 xs) (iOf xs) (jOf xs) (aOf xs) (bOf xs) slots
+
+unfoldable pub sharedOutcome : List ℕ → (into : List ℕ) → Outcome Answer
+sharedOutcome xs into = leaving (ofListed (listing xs (slotsOf into) .answer)) (withSlots (listing xs (slotsOf into) .later) into)
+
+-- what a call replies to a frame, where the destination buffer holds `into`
+abbrev pub telling : Outcome Answer → Outcome Reply
+telling o = leaving (Told (o .answer)) (o .later)
+
+unfoldable pub replyTo : (call : ℕ) → (frame into : List ℕ) → Outcome Reply
+replyTo call xs into =
+    cond (eqb call CHECK) (leaving (Told (checkAnswer xs)) into)
+    (cond (eqb call EXACT) (leaving (Told (exactAnswer xs)) into)
+    (cond (eqb call NEXT) (leaving (Told (nextAnswer xs)) into)
+    (cond (eqb call INVERSE) (leaving (Told (inverseAnswer xs)) into)
+    (cond (eqb call SPAN) (leaving (Told (spanAnswer xs)) into)
+    (cond (eqb call SHARED-RUNS) (telling (sharedOutcome xs into))
+    (leaving Unknown into))))))
+
+-- the line of what is replied and left, and nothing where there is no such call
+unfoldable pub lineOf : Reply → (into : List ℕ) → List ℕ
+lineOf (Told a) into = line a into
+lineOf Unknown into = []
+
+abbrev pub lineLeft : Outcome Reply → List ℕ
+lineLeft o = lineOf (o .answer) (o .later)
+
+-- THE REPLY to the bytes of a frame: the line of its call, made on its own destination buffer. It is nothing where the bytes are no frame or the call is
+-- unknown: then `bad frame` is printed
 unfoldable pub reply : List ℕ → List ℕ
-reply xs = cond (eqb (end4 xs) (length xs)) (callLine (getD xs 0 0) xs) []
+reply xs = cond (eqb (end4 xs) (length xs)) (lineLeft (replyTo (callOf xs) xs (intoOf xs))) []

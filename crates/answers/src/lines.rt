@@ -1,13 +1,15 @@
-// An answer as a line of text: its numbers in decimal, a space after each, and the destination buffer.
+// An answer as a line of text: its numbers in decimal, a space after each, and the destination buffer in hex.
 ghost use mathlib.Core.Path.{_≡_};
-ghost use Prim.Native.Nat.{_+_, _≤_};
+ghost use Prim.Native.Nat.{_+_, _*_, _≤_, _<_};
 ghost use lib.ListN.{length, take};
 ghost use lib.Seq.{paste};
 ghost use Rattle.io.specs.Counts.{Counts};
-ghost use Rattle.answers.specs.Lines.{Put, line};
+ghost use Rattle.io.specs.Digits.{glyph};
+ghost use Rattle.answers.specs.Lines.{Put, field, fields, hex, buffer, line};
 
-// The longest line: six numbers of 20 digits, a space after each, the buffer's `-` and the line's end.
-pub const LONGEST: usize = 128;
+// The longest line: six numbers of 20 digits, a space after each, two digits for each byte of a buffer that is no longer than its frame, or its `-`,
+// and the line's end.
+pub const LONGEST: usize = 131192;
 
 // What a line says. Number 0 is an accepted call; values that a call does not give are 0.
 pub struct Answer {
@@ -20,7 +22,7 @@ pub struct Answer {
 }
 
 // Puts `piece` into `text` at `at`.
-fn put(piece: &[u8], text: &mut [u8], at: usize)
+pub fn put(piece: &[u8], text: &mut [u8], at: usize)
     requires { ⌜ at + length (now piece) ≤ length (now text) ⌝ }
     ensures { λ _. ⌜ now (text .exit) ≡ paste (now (text .entry)) at (now (piece .entry)) (length (now (piece .entry))) ⌝ }
 {
@@ -34,7 +36,7 @@ fn put(piece: &[u8], text: &mut [u8], at: usize)
 // Puts n in decimal and a space into `text` at `at`, and answers where they end.
 fn put_number(n: u64, text: &mut [u8], at: usize) -> usize
     requires { ⌜ at + 21 ≤ length (now text) ⌝ }
-    ensures { λ r. ⌜ Put n at r (now (text .entry)) (now (text .exit)) ⌝ }
+    ensures { λ r. ⌜ Put (field n) 21 at r (now (text .entry)) (now (text .exit)) ⌝ }
 {
     let mut digits = [0u8; 20];
     let k = io::decimal(n, &mut digits);
@@ -43,18 +45,63 @@ fn put_number(n: u64, text: &mut [u8], at: usize) -> usize
     at + k + 1
 }
 
-// Puts the answer's line into `text`, and answers how long it is.
-pub fn put_line(answer: Answer, text: &mut [u8]) -> usize
-    requires { ⌜ 128 ≤ length (now text) ⌝ }
-    ensures { λ r. ⌜ (take r (now (text .exit)) ≡ line answer) × Counts r (now (text .exit)) ⌝ }
+// Puts the answer's numbers into `text`, and answers where they end.
+fn put_numbers(answer: Answer, text: &mut [u8]) -> usize
+    requires { ⌜ 126 ≤ length (now text) ⌝ }
+    ensures { λ r. ⌜ Put (fields answer) 126 0 r (now (text .entry)) (now (text .exit)) ⌝ }
 {
     let end1 = put_number(answer.number, text, 0);
     let end2 = put_number(answer.sheet, text, end1);
     let end3 = put_number(answer.place, text, end2);
     let end4 = put_number(answer.flag, text, end3);
     let end5 = put_number(answer.value, text, end4);
-    let end6 = put_number(answer.value2, text, end5);
-    text[end6] = b'-';
-    text[end6 + 1] = b'\n';
-    end6 + 2
+    put_number(answer.value2, text, end5)
+}
+
+// The character of a digit of base 16.
+fn hex_digit(d: u8) -> u8
+    requires { ⌜ d < 16 ⌝ }
+    ensures { λ r. ⌜ r ≡ glyph d ⌝ }
+{
+    if d < 10 { b'0' + d } else { b'a' - 10 + d }
+}
+
+// Puts bytes in hex into `text` at `at`, and answers where they end.
+fn put_hex(bytes: &[u8], text: &mut [u8], at: usize) -> usize
+    requires { ⌜ at + 2 * length (now bytes) ≤ length (now text) ⌝ }
+    ensures { λ r. ⌜ Put (hex (now (bytes .entry))) (2 * length (now (bytes .entry))) at r (now (text .entry)) (now (text .exit)) ⌝ }
+{
+    let mut end = at;
+    let mut i = 0;
+    while i < bytes.len() {
+        let byte = bytes[i];
+        text[end] = hex_digit(byte / 16);
+        text[end + 1] = hex_digit(byte % 16);
+        end += 2;
+        i += 1;
+    }
+    end
+}
+
+// Puts a buffer into `text` at `at`, and answers where it ends.
+fn put_buffer(bytes: &[u8], text: &mut [u8], at: usize) -> usize
+    requires { ⌜ at + 2 * length (now bytes) + 1 ≤ length (now text) ⌝ }
+    ensures { λ r. ⌜ Put (buffer (now (bytes .entry))) (2 * length (now (bytes .entry)) + 1) at r (now (text .entry)) (now (text .exit)) ⌝ }
+{
+    if bytes.len() == 0 {
+        text[at] = b'-';
+        return at + 1;
+    }
+    put_hex(bytes, text, at)
+}
+
+// Puts the line of an answer and of the destination buffer into `text`, and answers how long it is.
+pub fn put_line(answer: Answer, into: &[u8], text: &mut [u8]) -> usize
+    requires { ⌜ 128 + 2 * length (now into) ≤ length (now text) ⌝ }
+    ensures { λ r. ⌜ (take r (now (text .exit)) ≡ line answer (now (into .entry))) × Counts r (now (text .exit)) ⌝ }
+{
+    let numbers = put_numbers(answer, text);
+    let end = put_buffer(into, text, numbers);
+    text[end] = b'\n';
+    end + 1
 }

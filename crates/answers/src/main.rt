@@ -1,11 +1,17 @@
 // Answers: reads calls from standard input and prints the answer to each, a frame in and a line out. This is how a separate program, or any office's
 // script, asks the library.
 //
-// `frames` finds the parts of a frame, `calls` makes the call, `lines` writes the line. All three are functions on slices and are proved to do just what
-// their definitions say. No contract can say what is read or written, so this file is proved safe, and proved to end.
+// `frames` finds the parts of a frame, `numbers` reads and writes numbers of 64 bits, `calls` makes the call, `told` has its answer in numbers, `lines`
+// writes the line. All are functions on slices and are proved to do just what their definitions say. No contract can say what is read or written, so this
+// file is proved safe, and proved to end.
 mod calls;
 mod frames;
 mod lines;
+mod numbers;
+mod told;
+
+ghost use lib.ListN.{length};
+ghost use Rattle.answers.specs.Lines.{Room};
 
 const INPUT: i32 = 0;
 
@@ -17,10 +23,11 @@ fn refuse() -> bool {
     false
 }
 
-// Prints the line of a frame, and answers whether to go on.
-fn print_answer(frame: &[u8]) -> bool {
-    let mut text = [0u8; lines::LONGEST];
-    let n = calls::answer(frame, &mut text);
+// Prints the line of a frame, and answers whether to go on. Here and below `buffer` has room for the frame's destination buffer, and `text` for its line.
+fn print_answer(frame: &[u8], buffer: &mut [u8], text: &mut [u8]) -> bool
+    requires { ⌜ Room (length (now frame)) (length (now buffer)) (length (now text)) ⌝ }
+{
+    let n = calls::answer(frame, buffer, text);
     if n == 0 {
         return refuse();
     }
@@ -28,17 +35,21 @@ fn print_answer(frame: &[u8]) -> bool {
 }
 
 // Reads what fills the frame, and answers it.
-fn answer_frame(frame: &mut [u8]) -> bool {
+fn answer_frame(frame: &mut [u8], buffer: &mut [u8], text: &mut [u8]) -> bool
+    requires { ⌜ Room (length (now frame)) (length (now buffer)) (length (now text)) ⌝ }
+{
     let got = io::read_full(INPUT, frame);
     if got < frame.len() {
         return refuse();
     }
-    print_answer(frame)
+    print_answer(frame, buffer, text)
 }
 
-// Reads one frame by way of `space`, which has room for the longest, and prints its line. Answers whether to go on: not after the last frame, and
+// Reads one frame into `space`, which has room for the longest, and prints its line. Answers whether to go on: not after the last frame, and
 // not after a bad one.
-fn answer_one(space: &mut [u8]) -> bool {
+fn answer_one(space: &mut [u8], buffer: &mut [u8], text: &mut [u8]) -> bool
+    requires { ⌜ Room (length (now space)) (length (now buffer)) (length (now text)) ⌝ }
+{
     let mut head = [0u8; 4];
     let got = io::read_full(INPUT, &mut head);
     if got == 0 {
@@ -51,18 +62,22 @@ fn answer_one(space: &mut [u8]) -> bool {
     if n > space.len() {
         return refuse();
     }
-    answer_frame(&mut space[..n])
+    answer_frame(&mut space[..n], buffer, text)
 }
 
 // A proved loop has to end, and nothing says that the input does: so it counts its turns down, from a number that no run uses up.
-fn answer_all(space: &mut [u8]) {
+fn answer_all(space: &mut [u8], buffer: &mut [u8], text: &mut [u8])
+    requires { ⌜ Room (length (now space)) (length (now buffer)) (length (now text)) ⌝ }
+{
     let mut turns = u64::MAX;
-    while turns > 0 && answer_one(space) {
+    while turns > 0 && answer_one(space, buffer, text) {
         turns -= 1;
     }
 }
 
 fn main() {
     let mut space = [0u8; frames::MOST];
-    answer_all(&mut space);
+    let mut buffer = [0u8; frames::MOST];
+    let mut text = [0u8; lines::LONGEST];
+    answer_all(&mut space, &mut buffer, &mut text);
 }

@@ -1,7 +1,7 @@
 -- `answer_one` is safe: the frame is a front of the space. Assumes nothing.
 use mathlib.Core.Path.{sym}
-use native.Mathlib.Omega.{arith}
 use lib.Seq.{length-take-le}
+use Rattle.answers.proofs.Ends.{front-room}
 use borrow.Author.Needs.{needs}
 use Rattle.answers.proofs.answer_one.Statement.{statement}
 use Rattle.answers.proofs.answer_one.Tie as tie
@@ -34,13 +34,22 @@ slice-relend-prefix-answer-frame : tie.Need-slice-relend-prefix-answer-frame
 slice-relend-prefix-answer-frame c = search needs
 
 slice-aggregate-answer-frame : tie.Need-slice-aggregate-answer-frame
-slice-aggregate-answer-frame c = sym (length-take-le _ _ (omega arith))
+slice-aggregate-answer-frame c = sym (length-take-le _ _ (c .before .if3 .left))
 
 answer-frame-requires : tie.Need-answer-frame-requires
-answer-frame-requires c κs = search needs
+answer-frame-requires c κs =
+    let read = c .before .before .before .before in
+    let start = read .before .before .before .before .before .before .before .before .before .before in
+    front-room (read .number .result) (start .args .space .now) (start .pre)
 
 same-length : tie.Need-same-length
 same-length c = search needs
+
+same-length-2 : tie.Need-same-length-2
+same-length-2 c = search needs
+
+same-length-3 : tie.Need-same-length-3
+same-length-3 c = search needs
 
 returns-4 : tie.Need-returns-4
 returns-4 c = search needs
@@ -61,4 +70,6 @@ answer-one-spec =
     slice-aggregate-answer-frame
     answer-frame-requires
     same-length
+    same-length-2
+    same-length-3
     returns-4)

@@ -1,9 +1,9 @@
 -- `put_number` meets its contract. Assumes nothing.
-use Prim.Native.Nat.{_≤_}
 use mathlib.Core.Path.{_≡_, _∙_}
+use Prim.Native.Nat.{_≤_}
 use native.Mathlib.Omega.{arith}
-use Rattle.answers.specs.Lines.{decimal}
 use lib.ListN.{length, take}
+use Rattle.answers.specs.Lines.{decimal}
 use Rattle.answers.proofs.Decimals.{digits-decimal, digits-few}
 use Rattle.answers.proofs.Fields.{put-field}
 use borrow.Author.Needs.{needs}

@@ -1,0 +1,37 @@
+-- `of_listed` meets its contract. Assumes nothing.
+use mathlib.Core.Path.{sym, ap, _∙_}
+use Rattle.answers.specs.Replies.{ofListed}
+use borrow.Author.Needs.{needs}
+use Rattle.answers.proofs.told.of_listed.Statement.{statement}
+use Rattle.answers.proofs.told.of_listed.Tie as tie
+
+enum-known-listed : tie.Need-enum-known-listed
+enum-known-listed c = search needs
+
+done-requires : tie.Need-done-requires
+done-requires c κs = search needs
+
+enum-known-listed-2 : tie.Need-enum-known-listed-2
+enum-known-listed-2 c = search needs
+
+refused-requires : tie.Need-refused-requires
+refused-requires c κs = search needs
+
+returns : tie.Need-returns
+unfolding ofListed
+returns c = c .done .ensures ∙ sym (ap ofListed (c .before .before .listed .given .1))
+
+returns-2 : tie.Need-returns-2
+unfolding ofListed
+returns-2 c = c .refused .ensures ∙ sym (ap ofListed (c .before .before .listed2 .given .1))
+
+pub of-listed-spec : {M : Type 1} → statement M
+of-listed-spec =
+    tie.close
+    (tie.spec
+    enum-known-listed
+    done-requires
+    enum-known-listed-2
+    refused-requires
+    returns
+    returns-2)

@@ -1,0 +1,37 @@
+-- `of_located` meets its contract. Assumes nothing.
+use mathlib.Core.Path.{sym, ap, _∙_}
+use Rattle.answers.specs.Replies.{ofLocated}
+use borrow.Author.Needs.{needs}
+use Rattle.answers.proofs.told.of_located.Statement.{statement}
+use Rattle.answers.proofs.told.of_located.Tie as tie
+
+enum-known-located : tie.Need-enum-known-located
+enum-known-located c = search needs
+
+done-requires : tie.Need-done-requires
+done-requires c κs = search needs
+
+enum-known-located-2 : tie.Need-enum-known-located-2
+enum-known-located-2 c = search needs
+
+refused-requires : tie.Need-refused-requires
+refused-requires c κs = search needs
+
+returns : tie.Need-returns
+unfolding ofLocated
+returns c = c .done .ensures ∙ sym (ap ofLocated (c .before .before .located .given .1))
+
+returns-2 : tie.Need-returns-2
+unfolding ofLocated
+returns-2 c = c .refused .ensures ∙ sym (ap ofLocated (c .before .before .located2 .given .1))
+
+pub of-located-spec : {M : Type 1} → statement M
+of-located-spec =
+    tie.close
+    (tie.spec
+    enum-known-located
+    done-requires
+    enum-known-located-2
+    refused-requires
+    returns
+    returns-2)

@@ -1,0 +1,37 @@
+-- `of_spanned` meets its contract. Assumes nothing.
+use mathlib.Core.Path.{sym, ap, _∙_}
+use Rattle.answers.specs.Replies.{ofSpanned}
+use borrow.Author.Needs.{needs}
+use Rattle.answers.proofs.told.of_spanned.Statement.{statement}
+use Rattle.answers.proofs.told.of_spanned.Tie as tie
+
+enum-known-spanned : tie.Need-enum-known-spanned
+enum-known-spanned c = search needs
+
+done-requires : tie.Need-done-requires
+done-requires c κs = search needs
+
+enum-known-spanned-2 : tie.Need-enum-known-spanned-2
+enum-known-spanned-2 c = search needs
+
+refused-requires : tie.Need-refused-requires
+refused-requires c κs = search needs
+
+returns : tie.Need-returns
+unfolding ofSpanned
+returns c = c .done .ensures ∙ sym (ap ofSpanned (c .before .before .spanned .given .1))
+
+returns-2 : tie.Need-returns-2
+unfolding ofSpanned
+returns-2 c = c .refused .ensures ∙ sym (ap ofSpanned (c .before .before .spanned2 .given .1))
+
+pub of-spanned-spec : {M : Type 1} → statement M
+of-spanned-spec =
+    tie.close
+    (tie.spec
+    enum-known-spanned
+    done-requires
+    enum-known-spanned-2
+    refused-requires
+    returns
+    returns-2)
