@@ -7,3 +7,5 @@ mod tables;
 mod walks;
 
 pub use listing::list_shared;
+pub use tables::fill;
+pub use tables::fits;

@@ -1,0 +1,89 @@
+-- One step of a walk, from a selected run to the next: what the code asks for it, and where it then stands. Assumes nothing.
+use mathlib.Core.Path.{_≡_, sym, ap, ap₂, _∙_}
+use mathlib.Core.Bool.{Bool}
+use mathlib.Core.List.{List}
+use Prim.Native.Nat.{ℕ, _+_, _-_, _%_, _^_, _≤_, _<_, min}
+use native.Mathlib.Nat.{mod-lt, mod-add-mod}
+use native.Mathlib.Omega.{arith}
+use lib.ListN.{length, getD}
+use Rattle.counting.specs.Count.{countIn}
+use Rattle.counting.proofs.Counts.{count-le}
+use Rattle.maps.specs.declared.Selection.{Selection}
+use Rattle.maps.specs.declared.Window.{Window}
+use Rattle.maps.specs.Selected.{belongs, Selection·ok}
+use Rattle.moves.specs.declared.walks.Walk.{Walk}
+use Rattle.moves.specs.Strides.{Ahead, AheadBy, Strides, Onward·ok, onwards}
+use Rattle.moves.specs.Walks.{Stands, Carries}
+use Rattle.moves.proofs.Passing.{count-ahead}
+
+pub countIn-le : (p : ℕ → Bool) (a n : ℕ) → countIn p a n ≤ n
+unfolding countIn
+countIn-le p a n = count-le (λ y. p (a + y)) n
+
+-- the offset `far` further on, and what is left of the window from there on
+pub step-there : (a : ℕ) (w : Walk) (far : ℕ) → a + w .at + far ≡ a + (w .at + far)
+step-there a w far = omega arith
+
+pub step-left : (n : ℕ) (w : Walk) (far : ℕ) → n - w .at - far ≡ n - (w .at + far)
+step-left n w far = omega arith
+
+module _ {s : Selection} {p : ℕ → Bool} {runs hops : List ℕ} {a n : ℕ} {w : Walk}
+    (T : Strides s p runs hops) (W : Stands s p a n w) (inside : w .at < n) where
+  here : AheadBy p (a + w .at) (s .period) runs hops (w .place)
+  here = rw (W .place) (T .each (a + w .at) (omega (arith, W .after)) (W .here))
+
+  place-inside : w .place < s .period
+  place-inside = rw (W .place) (mod-lt (a + w .at - s .from) (T .some))
+
+  step-held : w .place < length runs
+  step-held = omega (arith, place-inside, T .runs-held)
+
+  module _ (run : ℕ) (clipped : run ≡ min (getD runs (w .place) 0 + 1) (n - w .at)) where
+    abbrev far : ℕ
+    far = getD hops (w .place) 0 + 1
+
+    pub step-ahead : Ahead p (a + w .at) (getD runs (w .place) 0 + 1) far
+    step-ahead = here .ahead
+
+    counted : run + countIn p (a + w .at + far) (n - w .at - far) ≡ countIn p (a + w .at) (n - w .at)
+    counted = sym (count-ahead step-ahead (n - w .at) run clipped)
+
+    -- both buffers have the run
+    pub step-fits : (w .at + run ≤ n) × (w .packed + run ≤ countIn p a n)
+    step-fits = (omega arith, omega (arith, counted, W .left))
+
+    step-asks : n ≤ 2 ^ 40 → Onward·ok s hops w run
+    step-asks near = record {
+      held = omega (arith, place-inside, T .hops-held);
+      inside = place-inside;
+      short = here .short;
+      near = omega arith;
+      few = omega (arith, step-fits .1, countIn-le p a n);
+    }
+
+    pub step-on : (w′ : Walk) → w′ ≡ onwards s hops w run → Stands s p a n w′
+    step-on w′ e =
+        rw e (record {
+          after = W .after;
+          here = ap p (sym (step-there a w far)) ∙ step-ahead .next;
+          place = ap (λ (u : ℕ). (u + far) % s .period) (W .place)
+              ∙ mod-add-mod (a + w .at - s .from) (s .period) far
+              ∙ ap (λ (z : ℕ). z % s .period) (let z : a + w .at - s .from + far ≡ a + (w .at + far) - s .from = omega (arith, W .after) in z);
+          left = omega (arith, counted, W .left, ap₂ (countIn p) (step-there a w far) (step-left n w far));
+        })
+
+-- ---- what the code asks on its way over a window
+module _ {s : Selection} {row : List ℕ} {window : Window} {n k : ℕ} (C : Carries s row window n k) where
+  pub begin-asks : Selection·ok s row × ((s .from ≤ window .start .0) × (window .start .0 < 2 ^ 40))
+  begin-asks = (C .ok, (C .after, omega (arith, C .some, C .near)))
+
+  module _ {runs hops : List ℕ} {w : Walk} (T : Strides s (belongs s row) runs hops)
+      (W : Stands s (belongs s row) (window .start .0) (window .end .0 - window .start .0) w) (inside : w .at < n) where
+    before : w .at < window .end .0 - window .start .0
+    before = omega (arith, C .buffers .file)
+
+    pub run-asks : (w .place < length runs) × ((window .start .0 ≤ window .end .0) × (w .at ≤ window .end .0 - window .start .0))
+    run-asks = (step-held T W before, (omega (arith, C .some), omega (arith, before)))
+
+    pub onward-asks : (run : ℕ) → run ≡ min (getD runs (w .place) 0 + 1) (window .end .0 - window .start .0 - w .at) → Onward·ok s hops w run
+    onward-asks run clipped = step-asks T W before run clipped (omega (arith, C .near))
