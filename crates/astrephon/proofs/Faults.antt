@@ -1,12 +1,13 @@
--- Which number refuses an offset, an interval or a window. Assumes nothing.
+-- Which number refuses an offset, an interval, a window or a buffer. Assumes nothing.
 use mathlib.Core.Path.{_≡_, refl, sym, _∙_}
 use Prim.Native.Nat.{ℕ, _≤_, _<_}
 use native.Mathlib.Omega.{arith}
-use borrow.Author.Tests.{lt-ltb, le-ltb, le-leb, lt-leb, ltb-false}
+use borrow.Author.Tests.{eq-eqb, ne-eqb, eqb-true, not-false, lt-ltb, le-ltb, le-leb, lt-leb, ltb-false}
 use Rattle.sheets.specs.Refusals.{firstFault}
 use Rattle.sheets.proofs.Faults.{no-fault}
-use Rattle.astrephon.specs.Refusals.{BEFORE, FAR, WINDOW}
+use Rattle.astrephon.specs.Refusals.{BEFORE, FAR, WINDOW, BUFFER}
 use Rattle.astrephon.specs.Offsets.{LIMIT, offsetTests, rangeTests}
+use Rattle.astrephon.specs.Carries.{bufferTests}
 
 module _ (from x : ℕ) where
   pub offset-before : x < from → BEFORE ≡ firstFault (offsetTests from x)
@@ -46,3 +47,23 @@ module _ (most from a b : ℕ) where
       let before = no-fault BEFORE _ _ (omega arith) (back .1) in
       let far = no-fault FAR _ _ (omega arith) (before .1) in
       (ltb-false b a (back .0), ltb-false a from (before .0), ltb-false most b (far .0))
+
+-- ---- the lengths of two buffers
+module _ (file bytes packed count : ℕ) where
+  pub buffer-file : (file ≡ bytes → ⊥) → BUFFER ≡ firstFault (bufferTests file bytes packed count)
+  unfolding firstFault
+  buffer-file d = rw (ne-eqb _ _ d) refl
+
+  pub buffer-packed : file ≡ bytes → (packed ≡ count → ⊥) → BUFFER ≡ firstFault (bufferTests file bytes packed count)
+  unfolding firstFault
+  buffer-packed e d = rw (eq-eqb _ _ e, ne-eqb _ _ d) refl
+
+  pub buffer-fine : file ≡ bytes → packed ≡ count → 0 ≡ firstFault (bufferTests file bytes packed count)
+  unfolding firstFault
+  buffer-fine e f = rw (eq-eqb _ _ e, eq-eqb _ _ f) refl
+
+  pub buffer-known : (n : ℕ) → n ≡ firstFault (bufferTests file bytes packed count) → n ≡ 0 → (file ≡ bytes) × (packed ≡ count)
+  buffer-known n e z =
+      let first = no-fault BUFFER _ _ (omega arith) (sym e ∙ z) in
+      let second = no-fault BUFFER _ _ (omega arith) (first .1) in
+      (eqb-true _ _ (not-false _ (first .0)), eqb-true _ _ (not-false _ (second .0)))

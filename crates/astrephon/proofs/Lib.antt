@@ -5,6 +5,7 @@ pub mod Faults
 pub mod Checks
 pub mod Mappings
 pub mod Listings
+pub mod Transfers
 pub mod Unique
 pub mod Undoing
 pub mod SharedRuns

@@ -16,21 +16,16 @@ use Rattle.maps.specs.declared.Window.{Window}
 use Rattle.runs.specs.Walking.{Side·ok, Window·ok}
 use Rattle.runs.specs.Listing.{sharedRuns, listOf, capacity, listAfter}
 use Rattle.astrephon.specs.declared.Refusal.{Refusal}
-use Rattle.astrephon.specs.declared.Listed.{Listed}
 use Rattle.astrephon.specs.declared.Listed.the-variants.{Runs, Refused}
 use Rattle.astrephon.specs.declared.opened.Opening.{Opening}
-use Rattle.astrephon.specs.Refusals.{ROOM, callRefusal, Outcome, stays}
+use Rattle.astrephon.specs.Refusals.{ROOM, callRefusal, stays}
 use Rattle.astrephon.specs.Offsets.{LIMIT, offsetsOf, windowTests}
 use Rattle.astrephon.specs.Openings.{openingOf, soonerOf}
 use Rattle.astrephon.specs.Shares.{runsOfPair, listedIn, sharedOf}
 use Rattle.astrephon.proofs.Orders.{fault-refused, fault-passed}
 use Rattle.astrephon.proofs.Faults.{range-known}
-use Rattle.astrephon.proofs.Opens.{Opened}
+use Rattle.astrephon.proofs.Opens.{Opened, side-ok}
 use Rattle.astrephon.proofs.PairOpens.{pair-closed, pair-on}
-
--- ---- an outcome by its parts
-pub parts : {o : Outcome Listed} (done : Outcome Listed) → o ≡ done → (o .answer ≡ done .answer) × (o .later ≡ done .later)
-parts done e = (ap (λ (p : Outcome Listed). p .answer) e, ap (λ (p : Outcome Listed). p .later) e)
 
 -- ---- a list that holds every run, and one that does not
 module _ (p q : ℕ → Bool) (shared : List Run) (held : List ℕ) (runs : ℕ) (count : runs ≡ length shared) (later : List ℕ) (list : later ≡ listAfter p q shared held) where
@@ -61,10 +56,6 @@ module _ (r1 r2 : Reading) (i j : ℕ) (fine1 : r1 .number ≡ 0) (fine2 : r2 .n
       → listedIn (offsetsOf r1 i) (offsetsOf r2 j) (runsOfPair r1 r2 i j a b) held ≡ sharedOf r1 r2 i j a b held
   unfolding sharedOf
   shared-on a b n q z = fault-passed (stays Refused held) _ _ n q z ∙ pair-on r1 r2 i j fine1 fine2 there1 there2 (stays Refused held) _
-
--- ---- an element that was opened is a side of a walk
-side-ok : {r : Reading} {e : ℕ} {s : Selection} {row : List ℕ} → Opened r e s row → (start : ℕ) → s .from ≤ start → Side·ok s row 65536 start
-side-ok O start after = record { ok = O .ok; fits = record { ruled = O .ruled; period = O .short }; after = after }
 
 -- ---- both were opened
 module _ {r1 r2 : Reading} {i j : ℕ} {s1 s2 : Selection} {row1 row2 : List ℕ} (O1 : Opened r1 i s1 row1) (O2 : Opened r2 j s2 row2) (a b n from : ℕ) (is : from ≡ max (s1 .from) (s2 .from))

@@ -14,6 +14,7 @@ use Rattle.sheets.specs.Sheet.{readSheet}
 use Rattle.sheets.proofs.Accepted.{Accepted, accepted-law}
 use Rattle.maps.specs.declared.Selection.{Selection}
 use Rattle.maps.specs.Selected.{familiesOf, belongs, Selection·ok, selectionOf}
+use Rattle.runs.specs.Walking.{Side·ok}
 use Rattle.maps.proofs.Chosen.{families-tree, selection-ok, belongs-tree}
 use Rattle.astrephon.specs.declared.Refusal.{Refusal}
 use Rattle.astrephon.specs.declared.opened.Opening.{Opening}
@@ -128,3 +129,7 @@ opened-is k xs e o row q laid z =
 pub opened-on : {r : Reading} {e : ℕ} {s : Selection} {row : List ℕ} → Opened r e s row → {A : Type 0} (k : ℕ) (refused : Refusal → A) (next : A)
     → next ≡ unlessSheet refused k r (unlessFault refused (elementTest r e ∷ []) next)
 opened-on {r} {e} O k refused next = element-on refused next k r e (O .fine) (O .there)
+
+-- what the engines ask of it
+pub side-ok : {r : Reading} {e : ℕ} {s : Selection} {row : List ℕ} → Opened r e s row → (start : ℕ) → s .from ≤ start → Side·ok s row 65536 start
+side-ok O start after = record { ok = O .ok; fits = record { ruled = O .ruled; period = O .short }; after = after }

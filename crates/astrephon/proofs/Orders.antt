@@ -9,7 +9,7 @@ use Rattle.counting.proofs.Cases.{byTest}
 use Rattle.sheets.specs.declared.Reading.{Reading}
 use Rattle.sheets.specs.Refusals.{Test, _when_, firstFault}
 use Rattle.astrephon.specs.declared.Refusal.{Refusal}
-use Rattle.astrephon.specs.Refusals.{sheetRefusal, callRefusal, unlessSheet, unlessFault}
+use Rattle.astrephon.specs.Refusals.{sheetRefusal, callRefusal, unlessSheet, unlessFault, Outcome}
 
 -- ---- a single row of the table
 pub row-there : (number : ℕ) (there : Bool) → there ≡ true → number ≡ firstFault ((number when there) ∷ [])
@@ -49,3 +49,7 @@ module _ {A : Type 0} (refused : Refusal → A) (next answer : A) (done : (f : R
   pub fault-through : (tests : List Test) → unlessFault refused tests next ≡ answer → (firstFault tests ≡ 0) × (next ≡ answer)
   unfolding unlessFault
   fault-through tests e = byTest (eqb (firstFault tests) 0) (λ t. (eqb-true (firstFault tests) 0 t, rw t at e)) (λ t. absurd (done _ (rw t at e)))
+
+-- ---- an outcome by its parts
+pub parts : {A : Type 0} {o : Outcome A} (done : Outcome A) → o ≡ done → (o .answer ≡ done .answer) × (o .later ≡ done .later)
+parts {A} done e = (ap (λ (p : Outcome A). p .answer) e, ap (λ (p : Outcome A). p .later) e)

@@ -22,6 +22,9 @@ WINDOW = 15
 abbrev pub FOREIGN : ℕ
 FOREIGN = 16
 
+abbrev pub BUFFER : ℕ
+BUFFER = 17
+
 abbrev pub ROOM : ℕ
 ROOM = 18
 

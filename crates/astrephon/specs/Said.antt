@@ -13,6 +13,10 @@ use Rattle.astrephon.specs.declared.Spanned.{Spanned}
 use Rattle.astrephon.specs.declared.Spanned.the-variants as spanned
 use Rattle.astrephon.specs.declared.Listed.{Listed}
 use Rattle.astrephon.specs.declared.Listed.the-variants as listed
+use Rattle.astrephon.specs.declared.Measured.{Measured}
+use Rattle.astrephon.specs.declared.Measured.the-variants as measured
+use Rattle.astrephon.specs.declared.Carried.{Carried}
+use Rattle.astrephon.specs.declared.Carried.the-variants as carried
 use Rattle.astrephon.specs.Refusals.{Outcome}
 
 pub record Said : Type 0 where
@@ -54,3 +58,11 @@ listedSays (listed.Refused r) = refusalSays r
 
 abbrev pub sharedSays : Outcome Listed → Said
 sharedSays o = holding (listedSays (o .answer)) (o .later)
+
+unfoldable pub measuredSays : Measured → Said
+measuredSays (measured.Bytes n) = done (n ∷ [])
+measuredSays (measured.Refused r) = refusalSays r
+
+unfoldable pub carriedSays : Carried → Said
+carriedSays carried.Done = done []
+carriedSays (carried.Refused r) = refusalSays r

@@ -1,13 +1,17 @@
 // Astrephon: THE CALLS. Each takes every input, and does its work or gives one refusal of 01's table; none asks anything of its caller.
 //
-// `checking` answers for one sheet, `mapping` maps offsets between the file and one element's subfile, `sharing` lists what two elements share; `opened` is
-// how a call on an element begins.
+// `checking` answers for one sheet, `mapping` maps offsets between the file and one element's subfile, `sharing` lists what two elements share,
+// `carrying` moves one element's bytes; `opened` is how a call on an element begins, `ranges` what is checked of offsets and lengths.
+mod carrying;
 mod checking;
 mod mapping;
 mod opened;
 mod ranges;
 mod sharing;
 
+pub use carrying::gather;
+pub use carrying::packed_len;
+pub use carrying::scatter;
 pub use checking::check;
 pub use families::FileOffset;
 pub use families::SubfileOffset;
@@ -41,6 +45,8 @@ pub const FAR: u8 = 14;
 pub const WINDOW: u8 = 15;
 
 pub const FOREIGN: u8 = 16;
+
+pub const BUFFER: u8 = 17;
 
 pub const ROOM: u8 = 18;
 
@@ -91,5 +97,17 @@ pub enum Spanned {
 // The answer to shared runs: how many the list holds now.
 pub enum Listed {
     Runs(u64),
+    Refused(Refusal),
+}
+
+// The answer to a packed length.
+pub enum Measured {
+    Bytes(u64),
+    Refused(Refusal),
+}
+
+// The answer to a call that moves bytes.
+pub enum Carried {
+    Done,
     Refused(Refusal),
 }

@@ -2,6 +2,7 @@
 ghost use mathlib.Core.Path.{_≡_};
 ghost use Rattle.sheets.specs.Refusals.{firstFault};
 ghost use Rattle.astrephon.specs.Offsets.{offsetTests, rangeTests};
+ghost use Rattle.astrephon.specs.Carries.{bufferTests};
 use crate::FileOffset;
 
 // Of one file offset, where the displacement is `from`.
@@ -29,6 +30,19 @@ pub fn range_fault(most: u64, from: u32, a: FileOffset, b: FileOffset) -> u8
     }
     if most < b.0 {
         return crate::FAR;
+    }
+    0
+}
+
+// Of the lengths of a file buffer and a packed one, where the window has `bytes` bytes, `count` of them the element's.
+pub fn buffer_fault(file: u64, bytes: u64, packed: u64, count: u64) -> u8
+    ensures { λ r. ⌜ r ≡ firstFault (bufferTests file bytes packed count) ⌝ }
+{
+    if file != bytes {
+        return crate::BUFFER;
+    }
+    if packed != count {
+        return crate::BUFFER;
     }
     0
 }

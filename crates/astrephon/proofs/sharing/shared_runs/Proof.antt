@@ -3,8 +3,9 @@ use mathlib.Core.Path.{_≡_, refl}
 use mathlib.Core.List.{[]}
 use Rattle.sheets.specs.Sheet.{readSheet}
 use Rattle.astrephon.proofs.Opens.{Opened, opened-is}
+use Rattle.astrephon.proofs.Orders.{parts}
 use Rattle.astrephon.proofs.PairOpens.{both-opened}
-use Rattle.astrephon.proofs.Listings.{parts, shared-closed, shared-asks, shared-fault, shared-room, shared-listed}
+use Rattle.astrephon.proofs.Listings.{shared-closed, shared-asks, shared-fault, shared-room, shared-listed}
 use borrow.Author.Needs.{needs}
 use Rattle.astrephon.proofs.sharing.shared_runs.Statement.{statement}
 use Rattle.astrephon.proofs.sharing.shared_runs.Tie as tie
