@@ -143,13 +143,16 @@ module _ (L : Elements) (a n : ℕ) (once : Partition L a n) (i x m : ℕ) (h : 
         ap (λ (z : ℕ). countIn q z y) (add-sub-of-le h),
       )
 
+  -- and the tray has them all
+  pub run-within : 0 < m → trayPlace L a n x + m ≤ n
+  run-within l =
+      let last = m - 1 in
+      omega (arith, place-run last (omega arith), place-within L a n once (x + last) (omega arith) (omega arith))
+
   -- so its bytes are a part of the tray
   pub tray-run : (t : List ℕ) → length t ≡ n → tabulated x m (inTray L a n t) ≡ take m (drop (trayPlace L a n x) t)
   unfolding tabulated
   tray-run t long = ⊎-elim
-      (λ l.
-      let last = m - 1 in
-      let room : trayPlace L a n x + m ≤ length t = omega (arith, place-run last (omega arith), place-within L a n once (x + last) (omega arith) (omega arith)) in
-      tabulated-part x m (inTray L a n t) t (trayPlace L a n x) room (λ y u. ap (λ (z : ℕ). getD t z 0) (place-run y u)))
+      (λ l. tabulated-part x m (inTray L a n t) t (trayPlace L a n x) (omega (arith, run-within l)) (λ y u. ap (λ (z : ℕ). getD t z 0) (place-run y u)))
       (λ l. let none : m ≡ 0 = omega arith in rw none refl)
       (lt-or-le 0 m)

@@ -21,7 +21,7 @@ use Rattle.families.proofs.Flats.{element-sound, element-size, element-small}
 use Rattle.sheets.specs.declared.Reading.{Reading}
 use Rattle.sheets.proofs.Accepted.{Accepted}
 use Rattle.maps.specs.declared.Selection.{Selection}
-use Rattle.maps.specs.Selected.{familiesOf, belongs, Selection·ok, selectionOf}
+use Rattle.maps.specs.Selected.{familiesOf, belongs, Selection·ok, selectionOf, Pattern·ok}
 
 -- ---- an offset in no element
 bit-none : (b : Bool) → bit b ≡ 0 → b ≡ false
@@ -76,19 +76,21 @@ module _ (t : Layout) (e : ℕ) where
         unfolding selectionOf
         chosen-is size = rw (element-size 4 65535 t ok e h numbers row selected is) refl
 
--- ---- THE ELEMENTS OF AN ACCEPTED SHEET are selections that the code takes
-module _ (r : Reading) (A : Accepted r) (e : ℕ) (h : e < r .layout .elements) where
-  none-past : (x : ℕ) → r .size ≤ x → has (treeOf 4 (r .layout) e) x ≡ false
+-- ---- THE ELEMENTS of a pattern that they share out are selections that the code takes
+module _ (t : Layout) (size : ℕ) (P : Pattern·ok t size) (e : ℕ) (h : e < t .elements) where
+  none-past : (x : ℕ) → size ≤ x → has (treeOf 4 t e) x ≡ false
   unfolding selections
-  none-past x l = times-none (λ i. has (treeOf 4 (r .layout) i)) 0 (r .layout .elements) x (A .past x l) e (omega arith) (omega arith)
+  none-past x l = times-none (λ i. has (treeOf 4 t i)) 0 (t .elements) x (P .past x l) e (omega arith) (omega arith)
 
-  pub selection-ok : Selection·ok (selectionOf (r .layout) (r .size) e) (rowOf (r .layout .family))
+  pub selection-ok : Selection·ok (selectionOf t size e) (rowOf (t .family))
   unfolding selectionOf
-  selection-ok =
-      let t = r .layout in
-      record {
-        sound = rw (families-tree t e (r .size)) (tree-sound t e (A .ok) h);
-        size = rw (families-tree t e (r .size)) (size-below (treeOf 4 t e) (r .size) none-past);
-        some = tree-some t e (A .ok) h;
-        short = omega (arith, A .most);
-      }
+  selection-ok = record {
+    sound = rw (families-tree t e size) (tree-sound t e (P .ok) h);
+    size = rw (families-tree t e size) (size-below (treeOf 4 t e) size none-past);
+    some = tree-some t e (P .ok) h;
+    short = omega (arith, P .most);
+  }
+
+-- an accepted sheet has such a pattern
+pub accepted-pattern : (r : Reading) → Accepted r → Pattern·ok (r .layout) (r .size)
+accepted-pattern r A = record { ok = A .ok; least = A .least; most = A .most; once = A .once; past = A .past }

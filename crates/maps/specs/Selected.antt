@@ -2,12 +2,14 @@
 use mathlib.Core.Path.{_≡_}
 use mathlib.Core.Bool.{Bool, true}
 use mathlib.Core.List.{List, [], _∷_}
-use Prim.Native.Nat.{ℕ, _+_, _^_, _≤_}
+use Prim.Native.Nat.{ℕ, _+_, _^_, _≤_, _<_}
 use Rattle.counting.specs.Count.{countBelow}
 use Rattle.counting.specs.Periodic.{owns}
+use Rattle.counting.specs.Gather.{tabulated}
+use Rattle.counting.specs.Elements.{Elements, times}
 use Rattle.families.specs.declared.Layout.{Layout}
 use Rattle.families.specs.Forest.{Forest, has, sizeOf, Sound}
-use Rattle.families.specs.Decoded.{familyAt, forestAt, elementOf, treeOf}
+use Rattle.families.specs.Decoded.{familyAt, forestAt, elementOf, treeOf, selections, Layout·ok}
 use Rattle.maps.specs.declared.Selection.{Selection}
 
 -- the families that select, read from a row of their numbers
@@ -34,6 +36,18 @@ pub record Selection·ok (s : Selection) (row : List ℕ) : Type 0 where
 unfoldable pub selectionOf : Layout → (size e : ℕ) → Selection
 selectionOf t size e =
     record { from = t .displacement; period = size; levels = 4; first = elementOf t e .first; tops = elementOf t e .tops; size = sizeOf (treeOf 4 t e) }
+
+-- THE ELEMENTS of such a layout, each the test of its file offsets
+unfoldable pub elementsOf : Layout → (size : ℕ) → Elements
+elementsOf t size = tabulated 0 (t .elements) (λ e. owns (t .displacement) size (has (treeOf 4 t e)))
+
+-- what the code asks of it: the sheet rules, and that every offset of the pattern is in exactly one element, and none past it in any
+pub record Pattern·ok (t : Layout) (size : ℕ) : Type 0 where
+  pub ok : Layout·ok 4 65535 t
+  pub least : 1 ≤ size
+  pub most : size ≤ 65536
+  pub once : (x : ℕ) → x < size → times (selections 4 t) x ≡ 1
+  pub past : (x : ℕ) → size ≤ x → times (selections 4 t) x ≡ 0
 
 -- the ranks of x in each of a list of selections, together
 unfoldable pub ranks : List (ℕ → Bool) → (x : ℕ) → ℕ

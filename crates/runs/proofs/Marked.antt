@@ -63,7 +63,7 @@ module _ {s : Selection} {row : List ℕ} (ok : Selection·ok s row) where
       mark-at : (i : ℕ) → i < s .period → getD table i 0 ≡ bit (has F i)
       mark-at i h = rw is (getD-tabulated 0 n _ i 0 (omega (arith, fits .period)) ∙ rw zero-add refl)
 
-      table-ok : Table·ok s table
+      pub table-ok : Table·ok s table
       table-ok = record {
         some = period-some ok;
         marks = λ i h. record {
