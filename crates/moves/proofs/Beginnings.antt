@@ -7,13 +7,14 @@ use Prim.Native.Nat.{ℕ, _+_, _-_, _%_, _^_, _≤_, _<_}
 use native.Mathlib.Nat.{zero-add, add-sub-of-le, mod-eq-of-lt, mod-eq-sub-mod}
 use native.Mathlib.Omega.{arith}
 use lib.ListN.{getD}
+use borrow.Author.Tests.{le-leb, lt-leb}
 use Rattle.counting.specs.Count.{countBelow}
 use Rattle.counting.proofs.Cases.{byTest, lt-or-le}
 use Rattle.counting.proofs.Counts.{count-le, count-mono, count-past}
 use Rattle.maps.specs.declared.Selection.{Selection}
 use Rattle.maps.specs.Selected.{Byte}
 use Rattle.moves.specs.declared.walks.Walk.{Walk}
-use Rattle.moves.specs.Strides.{onwards}
+use Rattle.moves.specs.Strides.{onwards, furthers}
 use Rattle.moves.specs.Walks.{Begun}
 use Rattle.moves.proofs.Passing.{countIn-skip}
 
@@ -54,3 +55,17 @@ module _ (p : ℕ → Bool) (a y x : ℕ) (e : y ≡ countBelow p a) (B : Byte p
 pub onward-is : (s : Selection) (hops : List ℕ) (w : Walk) (run read place : ℕ) → read ≡ getD hops (w .place) 0 → place ≡ (w .place + (read + 1)) % s .period
     → _≡_ {A = Walk} (record { at = w .at + (read + 1); place = place; packed = w .packed + run }) (onwards s hops w run)
 onward-is s hops w run read place e f = rw (f, e) refl
+
+-- ---- the two ways of `further`
+pub furthers-on : (s : Selection) (hops : List ℕ) (w : Walk) (run len : ℕ) → run ≤ len → furthers s hops w run len ≡ onwards s hops w run
+unfolding furthers
+furthers-on s hops w run len h = rw (le-leb run len h) refl
+
+pub furthers-in : (s : Selection) (hops : List ℕ) (w : Walk) (run len : ℕ) → len < run
+    → furthers s hops w run len ≡ record { at = w .at + len; place = (w .place + len) % s .period; packed = w .packed + len }
+unfolding furthers
+furthers-in s hops w run len h = rw (lt-leb run len h) refl
+
+pub further-in : (s : Selection) (hops : List ℕ) (w : Walk) (run len : ℕ) → len < run → (place : ℕ) → place ≡ (w .place + len) % s .period
+    → _≡_ {A = Walk} (record { at = w .at + len; place = place; packed = w .packed + len }) (furthers s hops w run len)
+further-in s hops w run len h place e = rw e (sym (furthers-in s hops w run len h))

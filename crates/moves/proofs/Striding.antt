@@ -1,20 +1,23 @@
--- One step of a walk, from a selected run to the next: what the code asks for it, and where it then stands. Assumes nothing.
-use mathlib.Core.Path.{_≡_, sym, ap, ap₂, _∙_}
+-- One step of a walk, from a selected run to the next or inside it: what the code asks for it, and where it then stands. Assumes nothing.
+use mathlib.Core.Path.{_≡_, refl, sym, ap, ap₂, _∙_}
 use mathlib.Core.Bool.{Bool}
 use mathlib.Core.List.{List}
+use mathlib.Core.Logic.{⊎-elim}
 use Prim.Native.Nat.{ℕ, _+_, _-_, _%_, _^_, _≤_, _<_, min}
 use native.Mathlib.Nat.{mod-lt, mod-add-mod}
 use native.Mathlib.Omega.{arith}
 use lib.ListN.{length, getD}
 use Rattle.counting.specs.Count.{countIn}
-use Rattle.counting.proofs.Counts.{count-le}
+use Rattle.counting.proofs.Cases.{lt-or-le}
+use Rattle.counting.proofs.Counts.{count-le, count-all, countIn-split}
 use Rattle.maps.specs.declared.Selection.{Selection}
 use Rattle.maps.specs.declared.Window.{Window}
 use Rattle.maps.specs.Selected.{belongs, Selection·ok}
 use Rattle.moves.specs.declared.walks.Walk.{Walk}
-use Rattle.moves.specs.Strides.{Ahead, AheadBy, Strides, Onward·ok, onwards}
+use Rattle.moves.specs.Strides.{Ahead, AheadBy, Strides, Onward·ok, onwards, furthers}
 use Rattle.moves.specs.Walks.{Stands, Carries}
-use Rattle.moves.proofs.Passing.{count-ahead}
+use Rattle.moves.proofs.Beginnings.{furthers-on, furthers-in}
+use Rattle.moves.proofs.Passing.{Passes, count-pass, run-passes, front-passes}
 
 pub countIn-le : (p : ℕ → Bool) (a n : ℕ) → countIn p a n ≤ n
 unfolding countIn
@@ -27,6 +30,39 @@ step-there a w far = omega arith
 pub step-left : (n : ℕ) (w : Walk) (far : ℕ) → n - w .at - far ≡ n - (w .at + far)
 step-left n w far = omega arith
 
+-- `far` offsets further on, with m bytes more
+abbrev pub stepped : Selection → Walk → (far m : ℕ) → Walk
+stepped s w far m = record { at = w .at + far; place = (w .place + far) % s .period; packed = w .packed + m }
+
+-- ---- a step over selected offsets
+module _ {s : Selection} {p : ℕ → Bool} {a n : ℕ} {w : Walk} (W : Stands s p a n w) {m far : ℕ} (S : Passes p (a + w .at) (n - w .at) m far) where
+  counted : m + countIn p (a + w .at + far) (n - w .at - far) ≡ countIn p (a + w .at) (n - w .at)
+  counted = sym (count-pass S)
+
+  -- the packed buffer has them
+  pub pass-fits : w .packed + m ≤ countIn p a n
+  pass-fits = omega (arith, counted, W .left)
+
+  pub pass-stands : (w′ : Walk) → w′ ≡ stepped s w far m → Stands s p a n w′
+  pass-stands w′ e =
+      rw e (record {
+        after = W .after;
+        here = ap p (sym (step-there a w far)) ∙ S .next;
+        place = ap (λ (u : ℕ). (u + far) % s .period) (W .place)
+            ∙ mod-add-mod (a + w .at - s .from) (s .period) far
+            ∙ ap (λ (z : ℕ). z % s .period) (let z : a + w .at - s .from + far ≡ a + (w .at + far) - s .from = omega (arith, W .after) in z);
+        left = omega (arith, counted, W .left, ap₂ (countIn p) (step-there a w far) (step-left n w far));
+      })
+
+  -- one of them stands in the packed buffer as many places on as in the file
+  pub packed-place : w .at ≤ n → (j : ℕ) → j < m → countIn p a (w .at + j) ≡ w .packed + j
+  unfolding countIn
+  packed-place inside j l =
+      let split = countIn-split p a (w .at) (n - w .at) in
+      let all : countIn p (a + w .at) j ≡ j = count-all (λ y. p (a + w .at + y)) j (λ y k. S .all y (omega arith)) in
+      omega (arith, countIn-split p a (w .at) j, all, W .left, split, ap (countIn p a) (let e : w .at + (n - w .at) ≡ n = omega arith in e))
+
+-- ---- by the tables
 module _ {s : Selection} {p : ℕ → Bool} {runs hops : List ℕ} {a n : ℕ} {w : Walk}
     (T : Strides s p runs hops) (W : Stands s p a n w) (inside : w .at < n) where
   here : AheadBy p (a + w .at) (s .period) runs hops (w .place)
@@ -45,12 +81,12 @@ module _ {s : Selection} {p : ℕ → Bool} {runs hops : List ℕ} {a n : ℕ} {
     pub step-ahead : Ahead p (a + w .at) (getD runs (w .place) 0 + 1) far
     step-ahead = here .ahead
 
-    counted : run + countIn p (a + w .at + far) (n - w .at - far) ≡ countIn p (a + w .at) (n - w .at)
-    counted = sym (count-ahead step-ahead (n - w .at) run clipped)
+    pub step-passes : Passes p (a + w .at) (n - w .at) run far
+    step-passes = run-passes step-ahead (n - w .at) run clipped
 
     -- both buffers have the run
     pub step-fits : (w .at + run ≤ n) × (w .packed + run ≤ countIn p a n)
-    step-fits = (omega arith, omega (arith, counted, W .left))
+    step-fits = (omega arith, pass-fits W step-passes)
 
     step-asks : n ≤ 2 ^ 40 → Onward·ok s hops w run
     step-asks near = record {
@@ -62,15 +98,17 @@ module _ {s : Selection} {p : ℕ → Bool} {runs hops : List ℕ} {a n : ℕ} {
     }
 
     pub step-on : (w′ : Walk) → w′ ≡ onwards s hops w run → Stands s p a n w′
-    step-on w′ e =
-        rw e (record {
-          after = W .after;
-          here = ap p (sym (step-there a w far)) ∙ step-ahead .next;
-          place = ap (λ (u : ℕ). (u + far) % s .period) (W .place)
-              ∙ mod-add-mod (a + w .at - s .from) (s .period) far
-              ∙ ap (λ (z : ℕ). z % s .period) (let z : a + w .at - s .from + far ≡ a + (w .at + far) - s .from = omega (arith, W .after) in z);
-          left = omega (arith, counted, W .left, ap₂ (countIn p) (step-there a w far) (step-left n w far));
-        })
+    step-on = pass-stands W step-passes
+
+    -- over the first `len` of the run: to a later one of it, or to the next run
+    pub further-passes : (len : ℕ) → len ≤ run → (w′ : Walk) → w′ ≡ furthers s hops w run len
+        → (to : ℕ) × Passes p (a + w .at) (n - w .at) len to × (w′ ≡ stepped s w to len)
+    further-passes len most w′ e = ⊎-elim
+        (λ l. (len, front-passes step-ahead (n - w .at) len (omega arith) (omega arith), e ∙ furthers-in s hops w run len l))
+        (λ l.
+        let all : len ≡ run = omega arith in
+        (far, rw all step-passes, e ∙ furthers-on s hops w run len l ∙ rw all refl))
+        (lt-or-le len run)
 
 -- ---- what the code asks on its way over a window
 module _ {s : Selection} {row : List ℕ} {window : Window} {n k : ℕ} (C : Carries s row window n k) where

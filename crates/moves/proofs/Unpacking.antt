@@ -11,13 +11,12 @@ use lib.Seq.{getD-take, getD-drop, getD-append-add, length-take-le, paste, lengt
 use Rattle.counting.specs.Count.{countIn}
 use Rattle.counting.specs.Gather.{inFile, scattered}
 use Rattle.counting.proofs.Cases.{lt-or-le}
-use Rattle.counting.proofs.Counts.{countIn-split, count-all}
 use Rattle.counting.proofs.Gathers.{tabulated-ext, tabulated-whole}
 use Rattle.maps.specs.declared.Selection.{Selection}
 use Rattle.moves.specs.declared.walks.Walk.{Walk}
 use Rattle.moves.specs.Strides.{Strides, onwards}
 use Rattle.moves.specs.Walks.{Stands, Begun}
-use Rattle.moves.proofs.Striding.{step-ahead, step-fits, step-on}
+use Rattle.moves.proofs.Striding.{packed-place, step-ahead, step-passes, step-fits, step-on}
 
 -- ---- the bytes of d after n bytes of l were copied to it from `at` on
 module _ (d l : List ℕ) (at n : ℕ) (fits : at + n ≤ length d) (held : n ≤ length l) where
@@ -87,15 +86,6 @@ module _ {s : Selection} {p : ℕ → Bool} {a n : ℕ} {packed file₀ file : L
     held : run ≤ length (drop (w .packed) packed)
     held = omega (arith, length-drop (w .packed) packed, unpacking-fits .0)
 
-    -- a byte of the run stands in the packed buffer as many places on as in the file
-    packed-place : (j : ℕ) → j < run → countIn p a (w .at + j) ≡ w .packed + j
-    unfolding countIn
-    packed-place j l =
-        let A = step-ahead T (U .stands) inside run clipped in
-        let split = countIn-split p a (w .at) (n - w .at) in
-        let all : countIn p (a + w .at) j ≡ j = count-all (λ y. p (a + w .at + y)) j (λ y m. A .all y (omega arith)) in
-        omega (arith, countIn-split p a (w .at) j, all, U .stands .left, split, ap (countIn p a) (let e : w .at + (n - w .at) ≡ n = omega (arith, inside) in e))
-
     module _ (file′ : List ℕ) (is : file′ ≡ paste file (w .at) (drop (w .packed) packed) run) where
       byte-among : (x : ℕ) → a + w .at ≤ x → x < a + w .at + run → inFile a file′ x ≡ scatteredByte p a packed file₀ x
       byte-among x h l =
@@ -103,7 +93,7 @@ module _ {s : Selection} {p : ℕ → Bool} {a n : ℕ} {packed file₀ file : L
           let j = x - (a + w .at) in
           let place : x - a ≡ w .at + j = omega arith in
           let owned : p x ≡ true = ap p (let e : x ≡ a + w .at + j = omega arith in e) ∙ A .all j (omega arith) in
-          rw (owned, place, is, packed-place j (omega arith))
+          rw (owned, place, is, packed-place (U .stands) (step-passes T (U .stands) inside run clipped) (omega (arith, inside)) j (omega arith))
           (pasted-among file (drop (w .packed) packed) (w .at) run (unpacking-fits .1) held j (omega arith) ∙ getD-drop (w .packed) packed j 0)
 
       byte-past : (x : ℕ) → a + w .at + run ≤ x → inFile a file′ x ≡ inFile a file₀ x

@@ -1,2 +1,4 @@
 pub mod Strides
 pub mod Walks
+pub mod Tables
+pub mod Parts

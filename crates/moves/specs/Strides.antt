@@ -1,8 +1,9 @@
 -- What lies ahead of a selected offset, and the two tables that say so for every place of a period. Assumes nothing: these are definitions.
 use mathlib.Core.Path.{_≡_}
-use mathlib.Core.Bool.{Bool, true, false}
+use mathlib.Core.Bool.{Bool, true, false, cond}
 use mathlib.Core.List.{List}
 use Prim.Native.Nat.{ℕ, _+_, _-_, _%_, _^_, _≤_, _<_}
+use lib.Dec.{leb}
 use lib.ListN.{length, getD, replicate}
 use Rattle.maps.specs.declared.Selection.{Selection}
 use Rattle.runs.specs.Walking.{FitsTable}
@@ -68,3 +69,8 @@ abbrev pub onwards : (s : Selection) → (hops : List ℕ) → (w : Walk) → (r
 onwards s hops w run =
     let hop = getD hops (w .place) 0 + 1 in
     record { at = w .at + hop; place = (w .place + hop) % s .period; packed = w .packed + run }
+
+-- .. or to a later byte of the same run
+unfoldable pub furthers : (s : Selection) → (hops : List ℕ) → (w : Walk) → (run len : ℕ) → Walk
+furthers s hops w run len =
+    cond (leb run len) (onwards s hops w run) (record { at = w .at + len; place = (w .place + len) % s .period; packed = w .packed + len })

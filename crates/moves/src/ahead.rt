@@ -1,30 +1,37 @@
-// Two tables by place in a period: how long the selected run from there on is, and how far the next run after it.
+// Two tables by place in a period: how long the run of its owner from there on is, and how far the owner's next run after it.
 ghost use Prim.Native.Nat.{_≤_};
-ghost use lib.ListN.{length};
 ghost use Rattle.maps.specs.Selected.{belongs, Selection·ok};
-ghost use Rattle.runs.specs.Walking.{marked};
-ghost use Rattle.moves.specs.Strides.{Room, Blank, First, Filled, Strides};
+ghost use Rattle.moves.specs.Strides.{Room, Blank, Strides};
+ghost use Rattle.moves.specs.Tables.{Nexts, AllFilled};
 use families::SubfileOffset;
 use maps::Selection;
 
-// Fills the tables from the last place back to the first, each number less one; `first` is the first marked place.
-pub fn fill_strides(marks: &[u8], period: usize, first: usize, runs: &mut [u16], hops: &mut [u16])
-    requires { ⌜ period ≤ length (now marks) ⌝ ∗ ⌜ Room period (now runs) (now hops) ⌝ ∗ ⌜ First (marked (now marks)) period first ⌝ }
-    ensures { λ _. ⌜ Filled (marked (now (marks .entry))) period (now (runs .exit)) (now (hops .exit)) ⌝ }
+// Fills the tables from the last place back to the first, each number less one. `nexts` has by owner where its next run starts, first that of the next
+// period.
+pub fn fill_strides(
+    owners: &[u8],
+    period: usize,
+    nexts: &mut [usize],
+    runs: &mut [u16],
+    hops: &mut [u16],
+)
+    requires { ⌜ Nexts (now owners) period (now nexts) ⌝ ∗ ⌜ Room period (now runs) (now hops) ⌝ }
+    ensures { λ _. ⌜ AllFilled (now (owners .entry)) period (now (nexts .entry)) (now (runs .exit)) (now (hops .exit)) ⌝ }
 {
     let mut place = period;
+    let mut last = owners[period - 1] as usize;
     let mut run: usize = 0;
-    let mut next = period + first;
     while 0 < place {
         place -= 1;
-        if marks[place] == 1 {
-            runs[place] = run as u16;
-            hops[place] = (next - place - 1) as u16;
-            run += 1;
-        } else if 0 < run {
+        let owner = owners[place] as usize;
+        if owner != last {
+            nexts[last] = place + 1;
+            last = owner;
             run = 0;
-            next = place + 1;
         }
+        runs[place] = run as u16;
+        hops[place] = (nexts[owner] - place - 1) as u16;
+        run += 1;
     }
 }
 
@@ -44,5 +51,7 @@ pub fn look_ahead(
     runs::fill(numbers, s, marks);
     let byte = maps::file_inverse(numbers, s, SubfileOffset(0));
     let first = (byte.0 - from) as usize;
-    fill_strides(marks, period, first, runs, hops);
+    let mut nexts = [period; 2];
+    nexts[1] = period + first;
+    fill_strides(marks, period, &mut nexts, runs, hops);
 }

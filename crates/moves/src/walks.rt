@@ -3,7 +3,7 @@ ghost use mathlib.Core.Path.{_≡_};
 ghost use Prim.Native.Nat.{_+_, _-_, _%_, _^_, _≤_, _<_, min};
 ghost use lib.ListN.{length, getD};
 ghost use Rattle.maps.specs.Selected.{belongs, Selection·ok};
-ghost use Rattle.moves.specs.Strides.{Onward·ok, onwards};
+ghost use Rattle.moves.specs.Strides.{Onward·ok, onwards, furthers};
 ghost use Rattle.moves.specs.Walks.{Begun};
 use families::FileOffset;
 use maps::Selection;
@@ -57,6 +57,22 @@ pub fn onward(hops: &[u16], s: Selection, walk: Walk, run: usize) -> Walk
         at: walk.at + hop,
         place: around(place + hop, period),
         packed: walk.packed + run,
+    }
+}
+
+// At the next piece, where `len` bytes of the `run` from here on are done: in the run still, or at the next one.
+pub fn further(hops: &[u16], s: Selection, walk: Walk, run: usize, len: usize) -> Walk
+    requires { ⌜ Onward·ok s (now hops) walk run ⌝ ∗ ⌜ len ≤ run ⌝ ∗ ⌜ run ≤ getD (now hops) (walk .place) 0 + 1 ⌝ }
+    ensures { λ r. ⌜ r ≡ furthers s (now (hops .entry)) walk run len ⌝ }
+{
+    if run <= len {
+        return onward(hops, s, walk, run);
+    }
+    let period = s.period as usize;
+    Walk {
+        at: walk.at + len,
+        place: around(walk.place + len, period),
+        packed: walk.packed + len,
     }
 }
 

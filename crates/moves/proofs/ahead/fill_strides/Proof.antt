@@ -1,94 +1,116 @@
--- `fill_strides` meets its contract. The loop's invariant: the tables are filled from the place on, and what it faces is known. Assumes nothing.
+-- `fill_strides` meets its contract. The loop's invariant: the tables are filled from the place on, and what every owner faces is known. Assumes nothing.
+use mathlib.Core.Logic.{⊎-elim}
+use Prim.Native.Nat.{_-_}
 use native.Mathlib.Omega.{arith}
-use borrow.Author.Tests.{eq-eqb, ne-eqb}
-use Rattle.runs.specs.Walking.{marked}
-use Rattle.moves.proofs.Facing.{Filling, filling-start, filling-all, Fitting, marked-fits, filling-marked, filling-gap, filling-wider}
+use lib.ListN.{getD}
+use borrow.Author.Needs.{needs}
+use Rattle.moves.proofs.Filling.{Turned, Filling, Fitting, filling-start, filling-turn, filling-same, filling-fits, filling-next, filling-all}
 use Rattle.moves.proofs.ahead.fill_strides.Statement.{statement}
 use Rattle.moves.proofs.ahead.fill_strides.Tie as tie
 
 abbrev Inv-loop : tie.InvT-loop
-Inv-loop marks period first runs₀ hops₀ place₀ run₀ next₀ runs hops place run next = Filling (marked marks) period place run next runs₀ hops₀ runs hops
+Inv-loop owners period nexts₀ runs₀ hops₀ place₀ last₀ run₀ nexts runs hops place last run =
+    Filling owners period nexts₀ runs₀ hops₀ place last run nexts runs hops
 
 abbrev μ-loop : tie.MeasureT-loop
-μ-loop marks period first runs₀ hops₀ place₀ run₀ next₀ runs hops place run next = place
+μ-loop owners period nexts₀ runs₀ hops₀ place₀ last₀ run₀ nexts runs hops place last run = place
 
-add-next : tie.Need-add-next Inv-loop μ-loop
-add-next c = omega (arith, c .pre .1 .0 .short, c .pre .1 .1 .inside)
+sub-last : tie.Need-sub-last Inv-loop μ-loop
+sub-last c = c .pre .0 .some
+
+shared-slice-read-last : tie.Need-shared-slice-read-last Inv-loop μ-loop
+shared-slice-read-last c = omega (arith, c .before .pre .0 .some, c .before .pre .0 .held)
+
+cast-last : tie.Need-cast-last Inv-loop μ-loop
+cast-last c = omega (arith, c .shared-slice-known .given (c .before .args .period - 1))
 
 loop-holds : tie.Need-loop-holds Inv-loop μ-loop
-loop-holds c = filling-start (c .pre .1 .0) (c .pre .1 .1)
+loop-holds c = filling-start (c .before .pre .0) (c .before .pre .1)
 
 sub-place : tie.Need-sub-place Inv-loop μ-loop
 sub-place c = omega arith
 
-shared-slice-read-if1 : tie.Need-shared-slice-read-if1 Inv-loop μ-loop
-shared-slice-read-if1 c = omega (arith, c .before .before .loop .inv .facing .inside, c .before .before .before .pre .0)
+shared-slice-read-owner : tie.Need-shared-slice-read-owner Inv-loop μ-loop
+shared-slice-read-owner c = omega (arith, c .before .before .loop .inv .faces .here .inside, c .before .before .before .before .pre .0 .held)
 
--- a marked place: both numbers fit
-fits : (c : tie.Then1 Inv-loop μ-loop) → let l = c .before .before .before in let s = l .before .args in
-    Fitting (s .period) (l .loop .place) (l .loop .run) (l .loop .next) (l .loop .runs) (l .loop .hops)
-fits c = marked-fits (c .before .before .before .loop .inv) (c .before .before .loop-test .taken) (eq-eqb _ 1 (c .if1 .taken))
+cast-owner : tie.Need-cast-owner Inv-loop μ-loop
+cast-owner c = omega (arith, c .shared-slice-known2 .given (c .before .before .loop .place - 1))
+
+add-nexts : tie.Need-add-nexts Inv-loop μ-loop
+add-nexts c = search needs
+
+mul-nexts : tie.Need-mul-nexts Inv-loop μ-loop
+mul-nexts c = search needs
+
+slice-write-nexts : tie.Need-slice-write-nexts Inv-loop μ-loop
+slice-write-nexts c = c .before .before .before .loop .inv .faces .there
+
+-- where the two ways meet, the owner of the place has the run
+turned : (c : tie.Joined1 Inv-loop μ-loop) → let l = c .before .before .before in let s = l .before .before .args in
+    Turned (s .owners .now) (s .period) (s .nexts .now) (l .loop .place) (c .if1 .last) (c .if1 .run) (c .if1 .nexts)
+turned c =
+    let l = c .before .before .before in
+    ⊎-elim
+    (λ w. rw (w .1, w .2, w .3) (filling-turn (l .loop .inv) (c .before .before .loop-test .taken) (l .before .before .pre .0) (w .0 .taken)))
+    (λ w. rw (w .1, w .2, w .3) (filling-same (l .loop .inv) (w .0 .left)))
+    (c .if1 .came)
+
+fits : (c : tie.Joined1 Inv-loop μ-loop) → let l = c .before .before .before in
+    Fitting (l .loop .place) (getD (l .before .before .args .owners .now) (l .loop .place - 1) 0) (c .if1 .run) (c .if1 .nexts) (l .loop .runs) (l .loop .hops)
+fits c = filling-fits (c .before .before .before .loop .inv) (c .before .before .loop-test .taken) (turned c)
 
 cast-runs : tie.Need-cast-runs Inv-loop μ-loop
-cast-runs c = omega (arith, fits c .run-small)
+cast-runs c = omega (arith, fits (c .before) .run-small)
 
 mul-runs : tie.Need-mul-runs Inv-loop μ-loop
-mul-runs c = omega (arith, c .before .before .before .loop .inv .facing .inside, c .before .before .before .loop .inv .room .short)
+mul-runs c = search needs
 
 slice-write-runs : tie.Need-slice-write-runs Inv-loop μ-loop
-slice-write-runs c = fits c .runs-held
-
-sub-hops : tie.Need-sub-hops Inv-loop μ-loop
-sub-hops c = omega (arith, fits c .later)
-
-sub-hops-2 : tie.Need-sub-hops-2 Inv-loop μ-loop
-sub-hops-2 c = omega (arith, fits c .later, c .before .before .loop-test .taken)
-
-cast-hops : tie.Need-cast-hops Inv-loop μ-loop
-cast-hops c = omega (arith, fits c .hop-small)
+slice-write-runs c = fits (c .before) .runs-held
 
 mul-hops : tie.Need-mul-hops Inv-loop μ-loop
-mul-hops c = omega (arith, c .before .before .before .loop .inv .facing .inside, c .before .before .before .loop .inv .room .short)
+mul-hops c = let h = c .before .before in omega (arith, h .shared-slice-known2 .given (h .before .before .loop .place - 1))
+
+slice-read-hops : tie.Need-slice-read-hops Inv-loop μ-loop
+slice-read-hops c = fits (c .before .before) .there
+
+sub-hops : tie.Need-sub-hops Inv-loop μ-loop
+sub-hops c = omega (arith, fits (c .before .before) .later)
+
+sub-hops-2 : tie.Need-sub-hops-2 Inv-loop μ-loop
+sub-hops-2 c = omega (arith, fits (c .before .before) .later, c .before .before .before .before .loop-test .taken)
+
+cast-hops : tie.Need-cast-hops Inv-loop μ-loop
+cast-hops c = omega (arith, fits (c .before .before) .hop-small)
+
+mul-hops-2 : tie.Need-mul-hops-2 Inv-loop μ-loop
+mul-hops-2 c = search needs
 
 slice-write-hops : tie.Need-slice-write-hops Inv-loop μ-loop
-slice-write-hops c = fits c .hops-held
+slice-write-hops c = fits (c .before .before) .hops-held
 
 add-run : tie.Need-add-run Inv-loop μ-loop
-add-run c = omega (arith, fits c .run-small)
+add-run c = omega (arith, fits (c .before .before) .run-small)
 
 loop-less : tie.Need-loop-less Inv-loop μ-loop
-loop-less c = omega arith
+loop-less c = omega (arith, c .before .before .before .before .loop-test .taken)
 
 loop-again : tie.Need-loop-again Inv-loop μ-loop
-loop-again c = filling-marked (c .before .before .before .loop .inv) (c .before .before .loop-test .taken) (eq-eqb _ 1 (c .if1 .taken))
-
-add-next-2 : tie.Need-add-next-2 Inv-loop μ-loop
-add-next-2 c = omega (arith, c .before .before .before .before .loop .inv .facing .inside, c .before .before .before .before .loop .inv .room .short)
-
-loop-less-2 : tie.Need-loop-less-2 Inv-loop μ-loop
-loop-less-2 c = omega arith
-
-loop-again-2 : tie.Need-loop-again-2 Inv-loop μ-loop
-loop-again-2 c =
+loop-again c =
     let l = c .before .before .before .before in
-    filling-gap (l .loop .inv) (c .before .before .before .loop-test .taken) (ne-eqb _ 1 (c .before .if1 .left)) (c .if2 .taken)
-
-loop-less-3 : tie.Need-loop-less-3 Inv-loop μ-loop
-loop-less-3 c = omega arith
-
-loop-again-3 : tie.Need-loop-again-3 Inv-loop μ-loop
-loop-again-3 c =
-    let l = c .before .before .before .before in
-    filling-wider (l .loop .inv) (c .before .before .before .loop-test .taken) (ne-eqb _ 1 (c .before .if1 .left)) (c .if2 .left)
+    filling-next (l .before .loop .inv) (l .loop-test .taken) (turned (c .before .before))
 
 same-length : tie.Need-same-length Inv-loop μ-loop
-same-length c = c .before .loop .inv .runs-same
+same-length c = c .before .loop .inv .faces .same
 
 same-length-2 : tie.Need-same-length-2 Inv-loop μ-loop
-same-length-2 c = c .before .loop .inv .hops-same
+same-length-2 c = c .before .loop .inv .runs-same
+
+same-length-3 : tie.Need-same-length-3 Inv-loop μ-loop
+same-length-3 c = c .before .loop .inv .hops-same
 
 returns : tie.Need-returns Inv-loop μ-loop
-returns c = filling-all (c .before .loop .inv) (omega arith)
+returns c = filling-all (c .before .loop .inv) (c .loop-test .left)
 
 pub fill-strides-spec : {M : Type 1} → statement M
 fill-strides-spec =
@@ -96,26 +118,30 @@ fill-strides-spec =
     (tie.spec
     Inv-loop
     μ-loop
-    add-next
+    sub-last
+    shared-slice-read-last
+    cast-last
     loop-holds
     sub-place
-    shared-slice-read-if1
+    shared-slice-read-owner
+    cast-owner
+    add-nexts
+    mul-nexts
+    slice-write-nexts
     cast-runs
     mul-runs
     slice-write-runs
+    mul-hops
+    slice-read-hops
     sub-hops
     sub-hops-2
     cast-hops
-    mul-hops
+    mul-hops-2
     slice-write-hops
     add-run
     loop-less
     loop-again
-    add-next-2
-    loop-less-2
-    loop-again-2
-    loop-less-3
-    loop-again-3
     same-length
     same-length-2
+    same-length-3
     returns)

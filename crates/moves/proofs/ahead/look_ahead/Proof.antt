@@ -1,6 +1,7 @@
 -- `look_ahead` meets its contract: the marks stand for the selection. Assumes nothing.
+use native.Mathlib.Omega.{arith}
 use borrow.Author.Needs.{needs}
-use Rattle.moves.proofs.Looking.{look-from, look-held, look-first, look-strides}
+use Rattle.moves.proofs.Looking.{look-from, look-near, look-nexts, look-strides}
 use Rattle.moves.proofs.ahead.look_ahead.Statement.{statement}
 use Rattle.moves.proofs.ahead.look_ahead.Tie as tie
 
@@ -21,14 +22,24 @@ sub-first c =
     let inverse = c .before in
     look-from (inverse .before .before .before .before .before .before .before .before .before .before .before .pre .0) _ (inverse .file-inverse .ensures)
 
+add-nexts : tie.Need-add-nexts
+add-nexts c =
+    let inverse = c .before in
+    let ok = inverse .before .before .before .before .before .before .before .before .before .before .before .pre .0 in
+    omega (arith, ok .short, look-near ok _ (inverse .file-inverse .ensures))
+
+array-write-nexts : tie.Need-array-write-nexts
+array-write-nexts c = search needs
+
+slice-aggregate-fill-strides : tie.Need-slice-aggregate-fill-strides
+slice-aggregate-fill-strides c = search needs
+
 fill-strides-requires : tie.Need-fill-strides-requires
 fill-strides-requires c κs =
-    let inverse = c .before .before .before .before in
+    let inverse = c .before .before .before .before .before in
     let marked = inverse .before .before .before in
-    let asked = marked .before .before .before .before .before .before .before .before .pre in (
-      look-held (asked .0) (asked .1 .fits) _ (marked .fill .ensures),
-      (asked .1 .room, look-first (asked .0) (asked .1 .fits) _ (marked .fill .ensures) _ (inverse .file-inverse .ensures)),
-    )
+    let asked = marked .before .before .before .before .before .before .before .before .pre in
+    (look-nexts (asked .0) _ (inverse .file-inverse .ensures) (asked .1 .fits) _ (marked .fill .ensures), asked .1 .room)
 
 same-length : tie.Need-same-length
 same-length c = search needs
@@ -41,10 +52,11 @@ same-length-3 c = search needs
 
 returns : tie.Need-returns
 returns c =
-    let filled = c .before .before .before .before in
-    let marked = filled .before .before .before .before .before .before .before .before in
+    let filled = c .before .before .before .before .before in
+    let inverse = filled .before .before .before .before .before .before in
+    let marked = inverse .before .before .before in
     let asked = marked .before .before .before .before .before .before .before .before .pre in
-    look-strides (asked .0) (asked .1 .fits) _ (marked .fill .ensures) (filled .fill-strides .ensures)
+    look-strides (asked .0) _ (inverse .file-inverse .ensures) (asked .1 .fits) _ (marked .fill .ensures) (filled .fill-strides .ensures)
 
 pub look-ahead-spec : {M : Type 1} → statement M
 look-ahead-spec =
@@ -55,6 +67,9 @@ look-ahead-spec =
     fill-requires
     file-inverse-requires
     sub-first
+    add-nexts
+    array-write-nexts
+    slice-aggregate-fill-strides
     fill-strides-requires
     same-length
     same-length-2

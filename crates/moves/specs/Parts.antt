@@ -1,0 +1,136 @@
+-- Parts of trays: an element's share of a window, the piece of a run that one element of another layout has, and a tray that is moved in part.
+-- Assumes nothing: these are definitions.
+use mathlib.Core.Path.{_≡_}
+use mathlib.Core.Bool.{Bool, true, _&&_, _||_, cond}
+use mathlib.Core.List.{List}
+use Prim.Native.Nat.{ℕ, suc, _+_, _-_, _*_, _^_, _≤_, _<_}
+use lib.Dec.{eqb, leb, ltb}
+use lib.ListN.{length, getD, take}
+use Rattle.counting.specs.Count.{countBelow, countIn}
+use Rattle.counting.specs.Gather.{gathered}
+use Rattle.counting.specs.Elements.{Elements, element, firstOf}
+use Rattle.counting.specs.Trays.{counts, tray, trayPlace, inTray}
+use Rattle.families.specs.declared.Layout.{Layout}
+use Rattle.families.specs.Decoded.{rowOf}
+use Rattle.maps.specs.declared.Window.{Window}
+use Rattle.maps.specs.Selected.{selectionOf, belongs, elementsOf, Pattern·ok}
+use Rattle.runs.specs.Walking.{Window·ok}
+use Rattle.moves.specs.declared.pieces.Cycle.{Cycle}
+use Rattle.moves.specs.declared.pieces.Piece.{Piece}
+use Rattle.moves.specs.declared.shares.Share.{Share}
+use Rattle.moves.specs.declared.parts.Chosen.{Chosen}
+use Rattle.moves.specs.Strides.{around, Strides}
+use Rattle.moves.specs.Tables.{heldBy, tabled, Owned, Ranked, RoomFor}
+
+-- how many offsets a window has
+abbrev pub bytesOf : Window → ℕ
+bytesOf w = w .end .0 - w .start .0
+
+-- ---- shares, four numbers an element in a row
+abbrev pub shareAt : List ℕ → (e : ℕ) → Share
+shareAt shares e = record {
+  start = record { 0 = getD shares (4 * e) 0 };
+  count = getD shares (4 * e + 1) 0;
+  before = record { 0 = getD shares (4 * e + 2) 0 };
+  size = getD shares (4 * e + 3) 0;
+}
+
+-- element e's share of the n numbers from a on: where its part of the tray starts and how long it is, how many of its numbers lie before a, and how many
+-- of the `period` from `from` on it has
+pub record ShareOf (L : Elements) (from period a n e : ℕ) (share : Share) : Type 0 where
+  pub start : share .start .0 ≡ counts (take e L) a n
+  pub count : share .count ≡ countIn (element L e) a n
+  pub before : share .before .0 ≡ countBelow (element L e) a
+  pub size : share .size ≡ countIn (element L e) from period
+
+pub record SharesOf (L : Elements) (from period a n : ℕ) (shares : List ℕ) : Type 0 where
+  pub held : 4 * length L ≤ length shares
+  pub each : (e : ℕ) → e < length L → ShareOf L from period a n e (shareAt shares e)
+
+-- ---- pieces
+-- the elements that a cycle and its table of owners stand for
+abbrev pub elementsBy : Cycle → (owners : List ℕ) → Elements
+elementsBy c owners = tabled (c .elements) (c .from) (c .period) owners
+
+-- THE SOURCES: what is written down of the first layout for a window of n offsets from a on
+pub record Sources (c : Cycle) (a n : ℕ) (owners keeps ranks shares : List ℕ) : Type 0 where
+  pub owned : Owned (c .elements) (c .period) owners
+  pub some : 1 ≤ c .period
+  pub short : c .period ≤ 2 ^ 16
+  pub after : c .from ≤ a
+  pub near : a + n ≤ 2 ^ 40
+  pub keeps-held : c .period ≤ length keeps
+  pub kept : (u y : ℕ) → u < c .period → y ≤ getD keeps u 0 → around (heldBy owners (getD owners u 0)) (c .period) (u + y) ≡ true
+  pub ranked : Ranked owners (c .period) ranks
+  pub shared : SharesOf (elementsBy c owners) (c .from) (c .period) a n shares
+
+-- a piece of at most `run` numbers from x on: one element has it all, and its bytes stand in the tray from `source` on
+pub record PieceOf (L : Elements) (a n x run : ℕ) (piece : Piece) : Type 0 where
+  pub some : 1 ≤ piece .len
+  pub most : piece .len ≤ run
+  pub number : 1 ≤ piece .owner
+  pub there : piece .owner - 1 < length L
+  pub all : (y : ℕ) → y < piece .len → element L (piece .owner - 1) (x + y) ≡ true
+  pub source : piece .source .0 ≡ trayPlace L a n x
+
+-- ---- what is moved
+-- every number, where `only` is 0, and else what element only - 1 has
+abbrev pub takes : Elements → (only : ℕ) → ℕ → Bool
+takes L only x = eqb only 0 || element L (only - 1) x
+
+-- A PART RENEWED: the bytes of q's numbers, those that are taken with f's byte, and all others as they were
+unfoldable pub renewed : (q : ℕ → Bool) → (a n : ℕ) → (taken : ℕ → Bool) → (f : ℕ → ℕ) → (old : List ℕ) → List ℕ
+renewed q a n taken f old = gathered q a n (λ x. cond (taken x) (f x) (getD old (countIn q a (x - a)) 0))
+
+-- x's element of M is one of those from `first` up to but not including `last`
+abbrev pub within : Elements → (first last : ℕ) → ℕ → Bool
+within M first last x = leb first (firstOf M x) && ltb (firstOf M x) last
+
+-- THE TRAY u OF M with t's bytes, t a tray of L, at the numbers that are chosen in both
+unfoldable pub movedWhere : (L M : Elements) → (a n : ℕ) → (t : List ℕ) → Chosen → (u : List ℕ) → List ℕ
+movedWhere L M a n t c u =
+    tray M a n (λ x. cond (takes L (c .only) x && within M (c .first) (c .last) x) (inTray L a n t x) (inTray M a n u x))
+
+-- what the code asks of a choice
+pub record Chosen·ok (c : Chosen) (one two : ℕ) : Type 0 where
+  pub only : c .only ≤ one
+  pub ordered : c .first ≤ c .last
+  pub most : c .last ≤ two
+
+-- ---- what the code asks of the second layout, of which the parts are filled
+pub record Targets (t : Layout) (size : ℕ) (w : Window) (row runs hops shares : List ℕ) : Type 0 where
+  pub pattern : Pattern·ok t size
+  pub laid : row ≡ rowOf (t .family)
+  pub after : t .displacement ≤ w .start .0
+  pub window : Window·ok w
+  pub strides : (e : ℕ) → e < t .elements → Strides (selectionOf t size e) (belongs (selectionOf t size e) row) runs hops
+  pub shared : SharesOf (elementsOf t size) (t .displacement) size (w .start .0) (bytesOf w) shares
+
+-- .. and of two trays, also for a window that is not empty
+pub record Lengths (w : Window) (one two : ℕ) : Type 0 where
+  pub first : one ≡ bytesOf w
+  pub second : two ≡ bytesOf w
+
+pub record Trays·ok (w : Window) (one two : ℕ) : Type 0 where
+  pub some : w .start .0 < w .end .0
+  pub long : Lengths w one two
+
+-- ---- what the code asks of a layout and a window that starts in it, also where the families' numbers stand in a row
+pub record Starts (t : Layout) (size : ℕ) (w : Window) : Type 0 where
+  pub pattern : Pattern·ok t size
+  pub after : t .displacement ≤ w .start .0
+  pub window : Window·ok w
+
+pub record Laid (t : Layout) (size : ℕ) (w : Window) (row : List ℕ) : Type 0 where
+  pub starts : Starts t size w
+  pub laid : row ≡ rowOf (t .family)
+
+-- .. and of the tables for two of them
+pub record Rooms (t1 : Layout) (size1 : ℕ) (t2 : Layout) (size2 : ℕ) (owners1 keeps ranks owners2 runs hops : List ℕ) : Type 0 where
+  pub first : RoomFor t1 size1 owners1 keeps hops
+  pub ranks-held : size1 ≤ length ranks
+  pub second : RoomFor t2 size2 owners2 runs hops
+
+-- the cycle of a layout
+abbrev pub cycleOf : Layout → (size : ℕ) → Cycle
+cycleOf t size = record { from = t .displacement; period = size; elements = t .elements }
