@@ -1,11 +1,14 @@
 -- THE FIGURES of 01 that are proved of the definitions: one table, what each call says and what 01 says, and one theorem over it. Assumes nothing.
 use mathlib.Core.Path.{_≡_, refl, sym, ap, ap₂, _∙_}
 use mathlib.Core.List.{List, [], _∷_, _++_, map, map-append}
-use Prim.Native.Nat.{ℕ}
-use lib.ListN.{length}
-use Rattle.counting.specs.Count.{countBelow, stretch}
+use Prim.Native.Nat.{ℕ, _-_}
+use native.Mathlib.Omega.{arith}
+use lib.ListN.{length, replicate}
+use Rattle.counting.specs.Count.{countBelow, countIn, stretch}
+use Rattle.counting.specs.Gather.{gathered}
 use Rattle.counting.specs.Runs.{glue, runsOf}
-use Rattle.counting.specs.Elements.{times}
+use Rattle.counting.specs.Elements.{Elements, times}
+use Rattle.counting.specs.Trays.{tray, trayPlace, moved}
 use Rattle.families.specs.Forest.{anyBelow, inSegments, has, endOf, sizeOf}
 use Rattle.families.specs.Decoded.{siblings, forestAt}
 use Rattle.families.specs.Flat.{width, total, flat, totals, flats, elementsAt, layoutOf}
@@ -22,10 +25,14 @@ use Rattle.astrephon.specs.Check.{checkedOf, checkCall}
 use Rattle.astrephon.specs.Offsets.{offsetsOf}
 use Rattle.astrephon.specs.Maps.{exactOf, nextOf, exactCall, nextCall, inverseCall}
 use Rattle.astrephon.specs.Shares.{listedIn, sharedCall}
-use Rattle.astrephon.specs.Said.{Said, done, holding, checkSays, mappedSays, locatedSays, listedSays, sharedSays}
+use Rattle.astrephon.specs.Moves.{movedCall}
+use Rattle.astrephon.specs.Moves as calls
+use Rattle.astrephon.specs.Said.{Said, done, holding, checkSays, mappedSays, locatedSays, listedSays, sharedSays, carriedSays, movedSays}
+use Rattle.astrephon.specs.declared.Carried.the-variants.{Done}
 use Rattle.astrephon.specs.declared.Mapped.the-variants as mapped
 use Rattle.astrephon.proofs.Undoing.{exact-then-inverse}
 use Rattle.astrephon.proofs.Panel.{sheetC, panel-exact}
+use Rattle.astrephon.proofs.TrayFigures.{layoutA, layoutB, layouts, A-to-B, B-to-A}
 use Rattle.astrephon.proofs.Samples.{only, sheetA, sheetB, sheetPairs, sheetSingles, shared-A-B, shared-pairs-singles}
 
 -- the sheets of 01's layouts
@@ -71,12 +78,33 @@ refusedSheet number place flag = record { number = number; sheet = 1; place = pl
 abbrev refused : (number place : ℕ) → Said
 refused number place = record { number = number; sheet = 0; place = place; flag = NO-FLAG; values = []; buffer = [] }
 
+-- the tray of a sheet, of bytes equal to their offsets
+abbrev trays : List ℕ → (a b : ℕ) → (tray : List ℕ) → Figure
+trays sheet a b wanted = record { says = holding (done []) (tray (calls.layoutOf (readSheet sheet)) a (b - a) (λ x. x)); wanted = holding (done []) wanted }
+
+-- .. and a move from one to the other, into a buffer of nines
+abbrev moves : (first second : List ℕ) → (a b : ℕ) → (tray1 tray2 : List ℕ) → Figure
+moves first second a b tray1 tray2 = record { says = movedSays (movedCall first second a b tray1 (replicate (length tray1) 9)); wanted = holding (done []) tray2 }
+
 -- lists whose slots all hold 9
 abbrev sevenSlots : List ℕ
 sevenSlots = 9 ∷ 9 ∷ 9 ∷ 9 ∷ 9 ∷ 9 ∷ 9 ∷ []
 
 abbrev eightSlots : List ℕ
 eightSlots = 9 ∷ sevenSlots
+
+-- the trays of A and B
+abbrev longA : List ℕ
+longA = 0 ∷ 1 ∷ 6 ∷ 7 ∷ 2 ∷ 3 ∷ 8 ∷ 9 ∷ 4 ∷ 5 ∷ 10 ∷ 11 ∷ []
+
+abbrev longB : List ℕ
+longB = 0 ∷ 2 ∷ 4 ∷ 6 ∷ 8 ∷ 10 ∷ 1 ∷ 3 ∷ 5 ∷ 7 ∷ 9 ∷ 11 ∷ []
+
+abbrev shortA : List ℕ
+shortA = 1 ∷ 2 ∷ 3 ∷ 4 ∷ []
+
+abbrev shortB : List ℕ
+shortB = 2 ∷ 4 ∷ 1 ∷ 3 ∷ []
 
 -- those that the definitions compute
 unfoldable pub computed : List Figure
@@ -99,6 +127,14 @@ reasoned =
     ∷ shares sheetA sheetB 12 sevenSlots (holding (refused ROOM 2) sevenSlots)
     ∷ shares sheetA sheetB 12 eightSlots (holding (done (2 ∷ [])) (0 ∷ 1 ∷ 0 ∷ 0 ∷ 6 ∷ 1 ∷ 2 ∷ 3 ∷ []))
     ∷ shares sheetPairs sheetSingles 32 eightSlots (holding (done (2 ∷ [])) (0 ∷ 1 ∷ 0 ∷ 0 ∷ 16 ∷ 1 ∷ 4 ∷ 4 ∷ []))
+    ∷ trays sheetA 0 12 longA
+    ∷ trays sheetB 0 12 longB
+    ∷ trays sheetA 1 5 shortA
+    ∷ trays sheetB 1 5 shortB
+    ∷ moves sheetA sheetB 0 12 longA longB
+    ∷ moves sheetB sheetA 0 12 longB longA
+    ∷ moves sheetA sheetB 1 5 shortA shortB
+    ∷ moves sheetB sheetA 1 5 shortB shortA
     ∷ []
 
 -- THE TABLE
@@ -140,9 +176,36 @@ eight-pairs-singles : sharedSays (sharedCall sheetPairs sheetSingles 0 0 0 32 ei
 unfolding listedSays listedIn listOf runsOf glue pairs singles has inSegments anyBelow countBelow
 eight-pairs-singles = ap sharedSays (shared-pairs-singles eightSlots)
 
+-- the trays, by the families of A and B, and the moves between them
+trays-A-B : (tray layoutA 0 12 (λ x. x) ≡ longA) × (tray layoutB 0 12 (λ x. x) ≡ longB) × (tray layoutA 1 4 (λ x. x) ≡ shortA) × (tray layoutB 1 4 (λ x. x) ≡ shortB)
+unfolding tray gathered has inSegments anyBelow
+trays-A-B = (refl, refl, refl, refl)
+
+moves-A-B : (moved layoutA layoutB 0 12 longA ≡ longB) × (moved layoutB layoutA 0 12 longB ≡ longA) × (moved layoutA layoutB 1 4 shortA ≡ shortB) × (moved layoutB layoutA 1 4 shortB ≡ shortA)
+unfolding moved tray gathered trayPlace countIn countBelow has inSegments anyBelow
+moves-A-B = (refl, refl, refl, refl)
+
+tray-says : (sheet : List ℕ) (L : Elements) → calls.layoutOf (readSheet sheet) ≡ L → (a b : ℕ) (wanted : List ℕ) → tray L a (b - a) (λ x. x) ≡ wanted
+    → trays sheet a b wanted .says ≡ holding (done []) wanted
+tray-says sheet L is a b wanted e = ap (holding (done [])) (ap (λ (M : Elements). tray M a (b - a) (λ x. x)) is ∙ e)
+
+move-says : (first second : List ℕ) (a b : ℕ) (tray1 tray2 later : List ℕ) → movedCall first second a b tray1 (replicate (length tray1) 9) ≡ record { answer = Done; later = later } → later ≡ tray2
+    → moves first second a b tray1 tray2 .says ≡ holding (done []) tray2
+unfolding carriedSays
+move-says first second a b tray1 tray2 later q e = ap movedSays q ∙ ap (holding (done [])) e
+
 reasoned-hold : map (λ (f : Figure). f .says) reasoned ≡ map (λ (f : Figure). f .wanted) reasoned
 unfolding reasoned
-reasoned-hold = λ i. inverse-F i ∷ exact-C i ∷ seven-A-B i ∷ eight-A-B i ∷ eight-pairs-singles i ∷ []
+reasoned-hold =
+    let a = tray-says sheetA layoutA (layouts .0) 0 12 longA (trays-A-B .0) in
+    let b = tray-says sheetB layoutB (layouts .1) 0 12 longB (trays-A-B .1) in
+    let c = tray-says sheetA layoutA (layouts .0) 1 5 shortA (trays-A-B .2) in
+    let d = tray-says sheetB layoutB (layouts .1) 1 5 shortB (trays-A-B .3) in
+    let e = move-says sheetA sheetB 0 12 longA longB _ (A-to-B 0 12 (omega arith) (omega arith) longA _ refl refl) (moves-A-B .0) in
+    let f = move-says sheetB sheetA 0 12 longB longA _ (B-to-A 0 12 (omega arith) (omega arith) longB _ refl refl) (moves-A-B .1) in
+    let g = move-says sheetA sheetB 1 5 shortA shortB _ (A-to-B 1 5 (omega arith) (omega arith) shortA _ refl refl) (moves-A-B .2) in
+    let h = move-says sheetB sheetA 1 5 shortB shortA _ (B-to-A 1 5 (omega arith) (omega arith) shortB _ refl refl) (moves-A-B .3) in
+    λ i. inverse-F i ∷ exact-C i ∷ seven-A-B i ∷ eight-A-B i ∷ eight-pairs-singles i ∷ a i ∷ b i ∷ c i ∷ d i ∷ e i ∷ f i ∷ g i ∷ h i ∷ []
 
 pub figures : map (λ (f : Figure). f .says) table ≡ map (λ (f : Figure). f .wanted) table
 figures = map-append (λ (f : Figure). f .says) computed reasoned ∙ ap₂ _++_ computed-hold reasoned-hold ∙ sym (map-append (λ (f : Figure). f .wanted) computed reasoned)

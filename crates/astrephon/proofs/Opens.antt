@@ -15,7 +15,7 @@ use Rattle.sheets.proofs.Accepted.{Accepted, accepted-law}
 use Rattle.maps.specs.declared.Selection.{Selection}
 use Rattle.maps.specs.Selected.{familiesOf, belongs, Selection·ok, selectionOf}
 use Rattle.runs.specs.Walking.{Side·ok}
-use Rattle.maps.proofs.Chosen.{families-tree, selection-ok, belongs-tree}
+use Rattle.maps.proofs.Chosen.{families-tree, selection-ok, accepted-pattern, belongs-tree}
 use Rattle.astrephon.specs.declared.Refusal.{Refusal}
 use Rattle.astrephon.specs.declared.opened.Opening.{Opening}
 use Rattle.astrephon.specs.Refusals.{ELEMENT, sheetRefusal, callRefusal, unlessSheet, unlessFault}
@@ -108,7 +108,7 @@ selected : (r : Reading) (e : ℕ) → Accepted r → r .number ≡ 0 → e < r 
 selected r e A z h s row p q = record {
   fine = z;
   there = h;
-  ok = rw (p, q) (selection-ok r A e h);
+  ok = rw (p, q) (selection-ok (r .layout) (r .size) (accepted-pattern r A) e h);
   ruled = rw (p, q) (rw (families-tree (r .layout) e (r .size)) (A .ok .ruled e h));
   short = rw p (period-short r e (A .most));
   from = ap (λ (t : Selection). t .from) p ∙ from-displacement r e;

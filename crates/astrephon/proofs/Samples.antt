@@ -1,4 +1,4 @@
--- The layouts of 01's figures on shared runs: each sheet is read once, and what its first element has is said by its families. Assumes nothing.
+-- The layouts of 01's figures: each sheet is read once, and what its first element has is said by its families. Assumes nothing.
 use mathlib.Core.Path.{_≡_, refl, sym, ap₂, _∙_}
 use mathlib.Core.Bool.{Bool}
 use mathlib.Core.List.{List, [], _∷_}
@@ -30,10 +30,10 @@ only l r = node l r 0 1 nil nil
 
 -- the elements of layouts A and B, and of 000's intersection example: (0,7,16,2,{(0,1,4,2)}) and (0,3,8,4,{(0,0,2,2)}), each with an element that has the
 -- rest of its pattern of 32
-abbrev elementsA : List Forest
+abbrev pub elementsA : List Forest
 elementsA = only 0 1 ∷ only 2 3 ∷ only 4 5 ∷ []
 
-abbrev elementsB : List Forest
+abbrev pub elementsB : List Forest
 elementsB = node 0 0 2 2 nil nil ∷ node 1 1 2 2 nil nil ∷ []
 
 abbrev elementsPairs : List Forest
@@ -54,7 +54,7 @@ sheetPairs = encode 0 elementsPairs
 unfoldable pub sheetSingles : List ℕ
 sheetSingles = encode 0 elementsSingles
 
-readings : (readSheet sheetA ≡ accepted 0 elementsA) × (readSheet sheetB ≡ accepted 0 elementsB)
+pub readings : (readSheet sheetA ≡ accepted 0 elementsA) × (readSheet sheetB ≡ accepted 0 elementsB)
     × (readSheet sheetPairs ≡ accepted 0 elementsPairs) × (readSheet sheetSingles ≡ accepted 0 elementsSingles)
 unfolding sheetA sheetB sheetPairs sheetSingles pairs singles encode elementsBytes elementBytes forestBytes familyBytes two four width total flat totals flats
     elementsAt layoutOf readSheet answer judged accepted firstUneven sizes elementsOf elementsFrom forestFrom siblingsFrom fault bodyTests elementTests
@@ -77,7 +77,7 @@ first-there : (F : Forest) (Fs : List Forest) → 0 < accepted 0 (F ∷ Fs) .lay
 unfolding accepted layoutOf
 first-there F Fs = omega arith
 
-no-fault-read : (Fs : List Forest) → accepted 0 Fs .number ≡ 0
+pub no-fault-read : (Fs : List Forest) → accepted 0 Fs .number ≡ 0
 unfolding accepted
 no-fault-read Fs = refl
 

@@ -14,6 +14,7 @@ use Rattle.astrephon.specs.Check.{checkCall}
 use Rattle.astrephon.specs.Maps.{exactCall, nextCall, inverseCall, spanCall}
 use Rattle.astrephon.specs.Shares.{sharedCall}
 use Rattle.astrephon.specs.Carries.{measuredCall, gatheredCall, scatteredCall}
+use Rattle.astrephon.specs.Moves.{movedCall, pairMovedCall}
 
 pub check-unique : (xs : List ℕ) (a b : Checked) → a ≡ checkCall xs → b ≡ checkCall xs → a ≡ b
 check-unique xs a b p q = p ∙ sym q
@@ -49,3 +50,11 @@ gathered-unique xs e s z file held = both-same (gatheredCall xs e s z file held)
 pub scattered-unique : (xs : List ℕ) (e s z : ℕ) (packed held : List ℕ) → let done = scatteredCall xs e s z packed held in (a b : Carried) (later later′ : List ℕ)
     → a ≡ done .answer → later ≡ done .later → b ≡ done .answer → later′ ≡ done .later → (a ≡ b) × (later ≡ later′)
 scattered-unique xs e s z packed held = both-same (scatteredCall xs e s z packed held)
+
+pub moved-unique : (xs ys : List ℕ) (s z : ℕ) (t held : List ℕ) → let done = movedCall xs ys s z t held in (a b : Carried) (later later′ : List ℕ)
+    → a ≡ done .answer → later ≡ done .later → b ≡ done .answer → later′ ≡ done .later → (a ≡ b) × (later ≡ later′)
+moved-unique xs ys s z t held = both-same (movedCall xs ys s z t held)
+
+pub pair-moved-unique : (xs ys : List ℕ) (i j s z : ℕ) (t held : List ℕ) → let done = pairMovedCall xs ys i j s z t held in (a b : Carried) (later later′ : List ℕ)
+    → a ≡ done .answer → later ≡ done .later → b ≡ done .answer → later′ ≡ done .later → (a ≡ b) × (later ≡ later′)
+pair-moved-unique xs ys i j s z t held = both-same (pairMovedCall xs ys i j s z t held)

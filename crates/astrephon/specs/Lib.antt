@@ -4,5 +4,7 @@ pub mod Check
 pub mod Maps
 pub mod Shares
 pub mod Carries
+pub mod Moves
+pub mod Sequences
 pub mod Openings
 pub mod Said

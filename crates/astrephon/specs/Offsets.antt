@@ -10,7 +10,7 @@ use Rattle.families.specs.Decoded.{treeOf}
 use Rattle.sheets.specs.declared.Reading.{Reading}
 use Rattle.sheets.specs.Refusals.{Test, _when_}
 use Rattle.astrephon.specs.declared.Refusal.{Refusal}
-use Rattle.astrephon.specs.Refusals.{ELEMENT, BEFORE, FAR, WINDOW, unlessSheet, unlessFault}
+use Rattle.astrephon.specs.Refusals.{ELEMENT, BEFORE, FAR, WINDOW, unlessSheet, unlessSheets, unlessFault}
 
 -- file offsets are below this
 abbrev pub LIMIT : ℕ
@@ -37,7 +37,7 @@ abbrev pub unlessElement : {A : Type 0} → (refused : Refusal → A) → Readin
 unlessElement refused r e next = unlessSheet refused 1 r (unlessFault refused (elementTest r e ∷ []) next)
 
 abbrev pub unlessElements : {A : Type 0} → (refused : Refusal → A) → (r1 r2 : Reading) → (i j : ℕ) → (next : A) → A
-unlessElements refused r1 r2 i j next = unlessSheet refused 1 r1 (unlessSheet refused 2 r2 (unlessFault refused (elementTest r1 i ∷ elementTest r2 j ∷ []) next))
+unlessElements refused r1 r2 i j next = unlessSheets refused r1 r2 (unlessFault refused (elementTest r1 i ∷ elementTest r2 j ∷ []) next)
 
 -- a file offset, where the displacement is d
 abbrev pub offsetTests : (d x : ℕ) → List Test

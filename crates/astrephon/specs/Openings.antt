@@ -1,4 +1,4 @@
--- How the calls open an element, in the code's own terms: the sheet's refusal, or the index's, or the selection. Assumes nothing: these are definitions.
+-- How the calls open an element or two sheets, in the code's own terms: the first refusal, or what is opened. Assumes nothing: these are definitions.
 use mathlib.Core.List.{[], _∷_}
 use mathlib.Core.Bool.{cond}
 use Prim.Native.Nat.{ℕ}
@@ -7,7 +7,8 @@ use Rattle.sheets.specs.declared.Reading.{Reading}
 use Rattle.maps.specs.Selected.{selectionOf}
 use Rattle.astrephon.specs.declared.Refusal.{Refusal}
 use Rattle.astrephon.specs.declared.opened.Opening.{Opening}
-use Rattle.astrephon.specs.Refusals.{callRefusal, unlessSheet, unlessFault}
+use Rattle.astrephon.specs.declared.opened.Sheets.{Sheets}
+use Rattle.astrephon.specs.Refusals.{callRefusal, unlessSheet, unlessSheets, unlessFault}
 use Rattle.astrephon.specs.Offsets.{elementTest}
 
 abbrev pub closedBy : Refusal → Opening
@@ -21,3 +22,7 @@ openingOf k r e =
 -- the refusal that goes first, of those of two sheets' elements: sheet 1's, sheet 2's, and then an index
 unfoldable pub soonerOf : (f g : Refusal) → Refusal
 soonerOf f g = cond (eqb (f .sheet) 0) (cond (eqb (g .sheet) 0) (cond (eqb (f .number) 0) g f) g) f
+
+-- both sheets, with the refusal of the first that is refused
+unfoldable pub sheetsOf : (r1 r2 : Reading) → Sheets
+sheetsOf r1 r2 = record { refusal = unlessSheets (λ f. f) r1 r2 (callRefusal 0 0); one = r1; two = r2 }

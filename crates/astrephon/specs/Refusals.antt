@@ -39,6 +39,10 @@ callRefusal number place = record { number = number; sheet = 0; place = place; f
 unfoldable pub unlessSheet : {A : Type 0} → (refused : Refusal → A) → (k : ℕ) → Reading → (next : A) → A
 unlessSheet refused k r next = cond (eqb (r .number) 0) next (refused (sheetRefusal k r))
 
+-- .. unless one of two is, the first before the second
+abbrev pub unlessSheets : {A : Type 0} → (refused : Refusal → A) → (r1 r2 : Reading) → (next : A) → A
+unlessSheets refused r1 r2 next = unlessSheet refused 1 r1 (unlessSheet refused 2 r2 next)
+
 -- `next`, unless there is a fault: the first is refused
 unfoldable pub unlessFault : {A : Type 0} → (refused : Refusal → A) → List Test → (next : A) → A
 unlessFault refused tests next = cond (eqb (firstFault tests) 0) next (refused (callRefusal (firstFault tests) 0))

@@ -66,3 +66,6 @@ measuredSays (measured.Refused r) = refusalSays r
 unfoldable pub carriedSays : Carried → Said
 carriedSays carried.Done = done []
 carriedSays (carried.Refused r) = refusalSays r
+
+abbrev pub movedSays : Outcome Carried → Said
+movedSays o = holding (carriedSays (o .answer)) (o .later)

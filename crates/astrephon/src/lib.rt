@@ -1,10 +1,12 @@
 // Astrephon: THE CALLS. Each takes every input, and does its work or gives one refusal of 01's table; none asks anything of its caller.
 //
 // `checking` answers for one sheet, `mapping` maps offsets between the file and one element's subfile, `sharing` lists what two elements share,
-// `carrying` moves one element's bytes; `opened` is how a call on an element begins, `ranges` what is checked of offsets and lengths.
+// `carrying` moves one element's bytes and `moving` bytes between trays; `opened` is how the calls begin, `ranges` what is checked of indexes, offsets and
+// lengths.
 mod carrying;
 mod checking;
 mod mapping;
+mod moving;
 mod opened;
 mod ranges;
 mod sharing;
@@ -19,6 +21,8 @@ pub use mapping::exact;
 pub use mapping::inverse;
 pub use mapping::next;
 pub use mapping::span;
+pub use moving::move_pair;
+pub use moving::move_tray;
 pub use sharing::shared_runs;
 pub use sheets::COUNT;
 pub use sheets::DEPTH;

@@ -1,17 +1,25 @@
-// Opening an element of a sheet: how every call that is about one begins.
+// Opening an element of a sheet, or two sheets: how the calls begin.
 ghost use mathlib.Core.Path.{_≡_};
 ghost use lib.ListN.{length};
 ghost use Rattle.families.specs.Decoded.{rowOf};
 ghost use Rattle.sheets.specs.Sheet.{readSheet};
 ghost use Rattle.astrephon.specs.Refusals.{callRefusal};
-ghost use Rattle.astrephon.specs.Openings.{closedBy, openingOf};
+ghost use Rattle.astrephon.specs.Openings.{closedBy, openingOf, sheetsOf};
 use crate::Refusal;
 use maps::Selection;
+use sheets::Reading;
 
 // What the element selects of the file. A refusal with number 0 is none, and with any other there is no selection.
 pub struct Opening {
     pub refusal: Refusal,
     pub selection: Selection,
+}
+
+// Two sheets, with the refusal of the first that is refused. Number 0 is none.
+pub struct Sheets {
+    pub refusal: Refusal,
+    pub one: Reading,
+    pub two: Reading,
 }
 
 // A refusal that blames no sheet.
@@ -69,4 +77,29 @@ pub fn open_element(sheet: &[u8], k: u8, element: u64, numbers: &mut [u32]) -> O
         refusal: refusal(0, 0),
         selection,
     }
+}
+
+// Opens two sheets.
+pub fn open_sheets(sheet1: &[u8], sheet2: &[u8]) -> Sheets
+    ensures { λ r. ⌜ r ≡ sheetsOf (readSheet (now (sheet1 .entry))) (readSheet (now (sheet2 .entry))) ⌝ }
+{
+    let one = sheets::read(sheet1);
+    let two = sheets::read(sheet2);
+    let mut refusal = refusal(0, 0);
+    if one.number != 0 {
+        refusal = Refusal {
+            number: one.number,
+            sheet: 1,
+            place: one.place,
+            flag: one.flag,
+        };
+    } else if two.number != 0 {
+        refusal = Refusal {
+            number: two.number,
+            sheet: 2,
+            place: two.place,
+            flag: two.flag,
+        };
+    }
+    Sheets { refusal, one, two }
 }

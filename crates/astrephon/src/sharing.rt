@@ -1,6 +1,5 @@
 // What two elements share: the runs of file offsets that are in both.
 ghost use mathlib.Core.Path.{_≡_};
-ghost use Prim.Native.Nat.{max};
 ghost use Rattle.astrephon.specs.Openings.{soonerOf};
 ghost use Rattle.astrephon.specs.Shares.{sharedCall};
 use crate::FileOffset;
@@ -24,13 +23,6 @@ fn sooner(f: Refusal, g: Refusal) -> Refusal
         return f;
     }
     g
-}
-
-// The larger of two displacements.
-fn larger(d: u32, e: u32) -> u32
-    ensures { λ r. ⌜ r ≡ max d e ⌝ }
-{
-    if d < e { e } else { d }
 }
 
 // The maximal runs of file offsets from a up to but not including b that are in element i of sheet 1 and in element j of sheet 2, ascending, four slots
@@ -57,7 +49,7 @@ pub fn shared_runs(
     }
     let s1 = one.selection;
     let s2 = two.selection;
-    let from = larger(s1.from, s2.from);
+    let from = ranges::larger(s1.from, s2.from);
     let fault = ranges::range_fault(crate::LIMIT, from, a, b);
     if fault != 0 {
         return Listed::Refused(opened::refusal(fault, 0));

@@ -1,0 +1,83 @@
+// Moving bytes from a tray of one sheet's layout to a tray of another's.
+ghost use mathlib.Core.Path.{_≡_};
+ghost use Rattle.astrephon.specs.Moves.{movedCall, pairMovedCall};
+use crate::Carried;
+use crate::FileOffset;
+use crate::opened;
+use crate::ranges;
+use maps::Window;
+
+// Fills `tray2`, a tray of the second sheet's layout, with the bytes of `tray1`, a tray of the first's. Both are of the window from a up to but not
+// including b.
+pub fn move_tray(
+    sheet1: &[u8],
+    sheet2: &[u8],
+    a: FileOffset,
+    b: FileOffset,
+    tray1: &[u8],
+    tray2: &mut [u8],
+) -> Carried
+    ensures { λ r. let done = movedCall (now (sheet1 .entry)) (now (sheet2 .entry)) (a .0) (b .0) (now (tray1 .entry)) (now (tray2 .entry)) in
+        ⌜ r ≡ done .answer ⌝ ∗ ⌜ now (tray2 .exit) ≡ done .later ⌝ }
+{
+    let both = opened::open_sheets(sheet1, sheet2);
+    let refusal = both.refusal;
+    if refusal.number != 0 {
+        return Carried::Refused(refusal);
+    }
+    let one = both.one.layout;
+    let two = both.two.layout;
+    let from = ranges::larger(one.displacement, two.displacement);
+    let fault = ranges::trays_fault(from, a, b, tray1.len() as u64, tray2.len() as u64);
+    if fault != 0 {
+        return Carried::Refused(opened::refusal(fault, 0));
+    }
+    let window = Window { start: a, end: b };
+    moves::move_tray(one, both.one.size, two, both.two.size, window, tray1, tray2);
+    Carried::Done
+}
+
+// Writes to `tray2` only the bytes that element i of the first sheet and element j of the second share.
+pub fn move_pair(
+    sheet1: &[u8],
+    sheet2: &[u8],
+    i: u64,
+    j: u64,
+    a: FileOffset,
+    b: FileOffset,
+    tray1: &[u8],
+    tray2: &mut [u8],
+) -> Carried
+    ensures { λ r. let done = pairMovedCall (now (sheet1 .entry)) (now (sheet2 .entry)) i j (a .0) (b .0) (now (tray1 .entry)) (now (tray2 .entry)) in
+        ⌜ r ≡ done .answer ⌝ ∗ ⌜ now (tray2 .exit) ≡ done .later ⌝ }
+{
+    let both = opened::open_sheets(sheet1, sheet2);
+    let refusal = both.refusal;
+    if refusal.number != 0 {
+        return Carried::Refused(refusal);
+    }
+    let one = both.one.layout;
+    let two = both.two.layout;
+    let absent = ranges::pair_fault(one.elements as u64, i, two.elements as u64, j);
+    if absent != 0 {
+        return Carried::Refused(opened::refusal(absent, 0));
+    }
+    let from = ranges::larger(one.displacement, two.displacement);
+    let fault = ranges::trays_fault(from, a, b, tray1.len() as u64, tray2.len() as u64);
+    if fault != 0 {
+        return Carried::Refused(opened::refusal(fault, 0));
+    }
+    let window = Window { start: a, end: b };
+    moves::move_pair(
+        one,
+        both.one.size,
+        two,
+        both.two.size,
+        i as usize,
+        j as usize,
+        window,
+        tray1,
+        tray2,
+    );
+    Carried::Done
+}
