@@ -1,4 +1,5 @@
 pub mod Orders
+pub mod Answering
 pub mod Opens
 pub mod PairOpens
 pub mod BothSheets

@@ -3,14 +3,12 @@ use mathlib.Core.Path.{_≡_, refl, sym, ap, _∙_}
 use mathlib.Core.List.{List, [], _∷_}
 use Prim.Native.Nat.{ℕ, _≤_, _<_}
 use native.Mathlib.Omega.{arith}
-use lib.Dec.{eqb, leb}
-use borrow.Author.Tests.{le-leb, lt-leb, eqb-true, eqb-false, leb-false}
-use Rattle.counting.proofs.Cases.{byTest}
+use borrow.Author.Tests.{le-leb, lt-leb, leb-false}
 use Rattle.families.specs.Forest.{WF}
 use Rattle.families.specs.Decoded.{rowOf, Layout·ok}
 use Rattle.sheets.specs.declared.Reading.{Reading}
-use Rattle.sheets.specs.Refusals.{firstFault}
 use Rattle.sheets.specs.Sheet.{readSheet}
+use Rattle.sheets.proofs.Faults.{no-fault}
 use Rattle.sheets.proofs.Accepted.{Accepted, accepted-law}
 use Rattle.maps.specs.declared.Selection.{Selection}
 use Rattle.maps.specs.Selected.{familiesOf, belongs, Selection·ok, selectionOf}
@@ -20,7 +18,8 @@ use Rattle.astrephon.specs.declared.Refusal.{Refusal}
 use Rattle.astrephon.specs.declared.opened.Opening.{Opening}
 use Rattle.astrephon.specs.Refusals.{ELEMENT, sheetRefusal, callRefusal, unlessSheet, unlessFault}
 use Rattle.astrephon.specs.Offsets.{offsetsOf, elementTest}
-use Rattle.astrephon.specs.Openings.{closedBy, openingOf}
+use Rattle.astrephon.specs.Openings.{closedBy, openedOf, openingOf}
+use Rattle.astrephon.proofs.Answering.{answerTo, sheet-answer, fault-answer, closed-answer, sheet-open, fault-open}
 use Rattle.astrephon.proofs.Orders.{row-there, row-absent, sheet-refused, sheet-passed, fault-refused, fault-passed}
 
 -- ---- an accepted sheet: its layout meets the rules
@@ -64,22 +63,27 @@ module _ (k : ℕ) (xs : List ℕ) (r : Reading) (read : r ≡ readSheet xs) (e 
 
 -- ---- where something is refused, every call refuses it
 module _ (k : ℕ) (r : Reading) (e : ℕ) (o : Opening) (is : o ≡ openingOf k r e) where
+  opening-answer : {A : Type 0} (refused : Refusal → A) (next : A) → answerTo refused next o ≡ unlessSheet refused k r (unlessFault refused (elementTest r e ∷ []) next)
+  unfolding openingOf
+  opening-answer refused next =
+      ap (answerTo refused next) is ∙ sheet-answer refused next _ k r ∙ ap (unlessSheet refused k r) (fault-answer refused next (openedOf r e) (elementTest r e ∷ []))
+
   pub opening-refused : {A : Type 0} (refused : Refusal → A) (next : A) → (o .refusal .number ≡ 0 → ⊥)
       → refused (o .refusal) ≡ unlessSheet refused k r (unlessFault refused (elementTest r e ∷ []) next)
-  unfolding openingOf unlessSheet unlessFault firstFault
-  opening-refused refused next d =
-      let number : (o′ : Opening) → o ≡ o′ → o′ .refusal .number ≡ 0 → o .refusal .number ≡ 0 = λ o′ q z. ap (λ (p : Opening). p .refusal .number) q ∙ z in
-      ap (λ (p : Opening). refused (p .refusal)) is ∙ byTest (eqb (r .number) 0)
-      (λ t. byTest (leb (r .layout .elements) e) (λ u. rw (t, u) refl) (λ u. absurd (d (number _ is (rw (t, u) refl)))))
-      (λ t. rw t refl)
+  opening-refused refused next d = closed-answer refused next _ o (opening-answer refused next) d
 
   pub opening-passed : o .refusal .number ≡ 0 → (r .number ≡ 0) × (e < r .layout .elements)
-  unfolding openingOf unlessSheet unlessFault firstFault
+  unfolding openingOf
   opening-passed z =
-      let none : openingOf k r e .refusal .number ≡ 0 = ap (λ (p : Opening). p .refusal .number) (sym is) ∙ z in
-      byTest (eqb (r .number) 0)
-      (λ t. byTest (leb (r .layout .elements) e) (λ u. absurd (let twelve : _≡_ {A = ℕ} 12 0 = rw (t, u) at none in omega arith)) (λ u. (eqb-true (r .number) 0 t, omega (arith, leb-false (r .layout .elements) e u))))
-      (λ t. absurd (eqb-false (r .number) 0 t (rw t at none)))
+      let sheet = sheet-open _ k r (ap (λ (p : Opening). p .refusal .number) (sym is) ∙ z) in
+      let element = fault-open (openedOf r e) (elementTest r e ∷ []) (sheet .1) in
+      (sheet .0, omega (arith, leb-false (r .layout .elements) e (no-fault ELEMENT _ _ (omega arith) (element .0) .0)))
+
+  pub opening-chosen : o .refusal .number ≡ 0 → o .selection ≡ selectionOf (r .layout) (r .size) e
+  unfolding openingOf
+  opening-chosen z =
+      let P = opening-passed z in
+      ap (λ (p : Opening). p .selection) (is ∙ sym (element-on closedBy (openedOf r e) k r e (P .0) (P .1)))
 
 -- ---- WHAT A CALL KNOWS of an element that was opened
 pub record Opened (r : Reading) (e : ℕ) (s : Selection) (row : List ℕ) : Type 0 where
@@ -103,7 +107,7 @@ belongs-offsets : (r : Reading) (e : ℕ) → belongs (selectionOf (r .layout) (
 unfolding offsetsOf
 belongs-offsets r e = belongs-tree (r .layout) e (r .size)
 
-selected : (r : Reading) (e : ℕ) → Accepted r → r .number ≡ 0 → e < r .layout .elements → (s : Selection) (row : List ℕ)
+pub selected : (r : Reading) (e : ℕ) → Accepted r → r .number ≡ 0 → e < r .layout .elements → (s : Selection) (row : List ℕ)
     → s ≡ selectionOf (r .layout) (r .size) e → row ≡ rowOf (r .layout .family) → Opened r e s row
 selected r e A z h s row p q = record {
   fine = z;
@@ -115,16 +119,12 @@ selected r e A z h s row p q = record {
   is = rw (p, q) (belongs-offsets r e);
 }
 
-chosen : (k : ℕ) (r : Reading) (e : ℕ) → r .number ≡ 0 → e < r .layout .elements → openingOf k r e .selection ≡ selectionOf (r .layout) (r .size) e
-unfolding openingOf
-chosen k r e fine h = ap (λ (p : Opening). p .selection) (sym (element-on closedBy _ k r e fine h))
-
 pub opened-is : (k : ℕ) (xs : List ℕ) (e : ℕ) (o : Opening) (row : List ℕ) → o ≡ openingOf k (readSheet xs) e
     → (o .refusal .number ≡ 0 → row ≡ rowOf (readSheet xs .layout .family)) → o .refusal .number ≡ 0 → Opened (readSheet xs) e (o .selection) row
 opened-is k xs e o row q laid z =
     let r = readSheet xs in
     let P = opening-passed k r e o q z in
-    selected r e (accepted-law xs (P .0)) (P .0) (P .1) (o .selection) row (ap (λ (p : Opening). p .selection) q ∙ chosen k r e (P .0) (P .1)) (laid z)
+    selected r e (accepted-law xs (P .0)) (P .0) (P .1) (o .selection) row (opening-chosen k r e o q z) (laid z)
 
 pub opened-on : {r : Reading} {e : ℕ} {s : Selection} {row : List ℕ} → Opened r e s row → {A : Type 0} (k : ℕ) (refused : Refusal → A) (next : A)
     → next ≡ unlessSheet refused k r (unlessFault refused (elementTest r e ∷ []) next)

@@ -31,17 +31,19 @@ bufferTests file bytes packed count = (BUFFER when not (eqb file bytes)) ∷ (BU
 unfoldable pub measuredOf : Reading → (e a b : ℕ) → Measured
 measuredOf r e a b = unlessWindow measured.Refused r e a b (measured.Bytes (packedLength r e a b))
 
+-- an element, a window, a file buffer of `file` bytes and a packed one of `packed`
+abbrev pub unlessBuffers : {A : Type 0} → (refused : Refusal → A) → Reading → (e a b file packed : ℕ) → (next : A) → A
+unlessBuffers refused r e a b file packed next = unlessWindow refused r e a b (unlessFault refused (bufferTests file (b - a) packed (packedLength r e a b)) next)
+
 unfoldable pub gatheredOf : Reading → (e a b : ℕ) → (file held : List ℕ) → Outcome Carried
 gatheredOf r e a b file held =
-    unlessWindow (stays Refused held) r e a b
-    (unlessFault (stays Refused held) (bufferTests (length file) (b - a) (length held) (packedLength r e a b))
-    (record { answer = Done; later = gathered (offsetsOf r e) a (b - a) (inFile a file) }))
+    unlessBuffers (stays Refused held) r e a b (length file) (length held)
+    (record { answer = Done; later = gathered (offsetsOf r e) a (b - a) (inFile a file) })
 
 unfoldable pub scatteredOf : Reading → (e a b : ℕ) → (packed held : List ℕ) → Outcome Carried
 scatteredOf r e a b packed held =
-    unlessWindow (stays Refused held) r e a b
-    (unlessFault (stays Refused held) (bufferTests (length held) (b - a) (length packed) (packedLength r e a b))
-    (record { answer = Done; later = scattered (offsetsOf r e) a (b - a) packed held }))
+    unlessBuffers (stays Refused held) r e a b (length held) (length packed)
+    (record { answer = Done; later = scattered (offsetsOf r e) a (b - a) packed held })
 
 abbrev pub measuredCall : List ℕ → (e a b : ℕ) → Measured
 measuredCall xs e a b = measuredOf (readSheet xs) e a b

@@ -10,14 +10,24 @@ use Rattle.astrephon.specs.declared.opened.Opening.{Opening}
 use Rattle.astrephon.specs.declared.opened.Sheets.{Sheets}
 use Rattle.astrephon.specs.Refusals.{callRefusal, unlessSheet, unlessSheets, unlessFault}
 use Rattle.astrephon.specs.Offsets.{elementTest}
+use Rattle.astrephon.specs.Carries.{unlessWindow, unlessBuffers}
 
 abbrev pub closedBy : Refusal → Opening
 closedBy f = record { refusal = f; selection = record { from = 0; period = 0; levels = 0; first = 0; tops = 0; size = 0 } }
 
--- number 0 is no refusal
+-- an element that is there. Number 0 is no refusal
+abbrev pub openedOf : Reading → (e : ℕ) → Opening
+openedOf r e = record { refusal = callRefusal 0 0; selection = selectionOf (r .layout) (r .size) e }
+
+-- .. of the k-th sheet; of one sheet, with a window; and with buffers of these lengths
 unfoldable pub openingOf : (k : ℕ) → Reading → (e : ℕ) → Opening
-openingOf k r e =
-    unlessSheet closedBy k r (unlessFault closedBy (elementTest r e ∷ []) (record { refusal = callRefusal 0 0; selection = selectionOf (r .layout) (r .size) e }))
+openingOf k r e = unlessSheet closedBy k r (unlessFault closedBy (elementTest r e ∷ []) (openedOf r e))
+
+unfoldable pub windowOf : Reading → (e a b : ℕ) → Opening
+windowOf r e a b = unlessWindow closedBy r e a b (openedOf r e)
+
+unfoldable pub buffersOf : Reading → (e a b file packed : ℕ) → Opening
+buffersOf r e a b file packed = unlessBuffers closedBy r e a b file packed (openedOf r e)
 
 -- the refusal that goes first, of those of two sheets' elements: sheet 1's, sheet 2's, and then an index
 unfoldable pub soonerOf : (f g : Refusal) → Refusal

@@ -4,8 +4,10 @@ ghost use lib.ListN.{length};
 ghost use Rattle.families.specs.Decoded.{rowOf};
 ghost use Rattle.sheets.specs.Sheet.{readSheet};
 ghost use Rattle.astrephon.specs.Refusals.{callRefusal};
-ghost use Rattle.astrephon.specs.Openings.{closedBy, openingOf, sheetsOf};
+ghost use Rattle.astrephon.specs.Openings.{closedBy, openingOf, windowOf, sheetsOf};
+use crate::FileOffset;
 use crate::Refusal;
+use crate::ranges;
 use maps::Selection;
 use sheets::Reading;
 
@@ -35,7 +37,7 @@ pub fn refusal(number: u8, place: u64) -> Refusal
 }
 
 // What is opened where something is refused.
-fn closed(refusal: Refusal) -> Opening
+pub fn closed(refusal: Refusal) -> Opening
     ensures { λ r. ⌜ r ≡ closedBy refusal ⌝ }
 {
     Opening {
@@ -73,6 +75,34 @@ pub fn open_element(sheet: &[u8], k: u8, element: u64, numbers: &mut [u32]) -> O
     }
     families::lay_out(layout, numbers);
     let selection = maps::selection_of(layout, size, element as usize, numbers);
+    Opening {
+        refusal: refusal(0, 0),
+        selection,
+    }
+}
+
+// Opens an element of a sheet for a window, from a up to but not including b.
+pub fn open_window(
+    sheet: &[u8],
+    element: u64,
+    a: FileOffset,
+    b: FileOffset,
+    numbers: &mut [u32],
+) -> Opening
+    requires { ⌜ length (now numbers) ≡ 1536 ⌝ }
+    ensures { λ r. ⌜ r ≡ windowOf (readSheet (now (sheet .entry))) element (a .0) (b .0) ⌝
+        ∗ ⌜ (r .refusal .number ≡ 0 → now (numbers .exit) ≡ rowOf (readSheet (now (sheet .entry)) .layout .family)) ⌝ }
+{
+    let opening = open_element(sheet, 1, element, numbers);
+    let refused = opening.refusal;
+    let selection = opening.selection;
+    if refused.number != 0 {
+        return closed(refused);
+    }
+    let fault = ranges::range_fault(crate::LIMIT, selection.from, a, b);
+    if fault != 0 {
+        return closed(refusal(fault, 0));
+    }
     Opening {
         refusal: refusal(0, 0),
         selection,

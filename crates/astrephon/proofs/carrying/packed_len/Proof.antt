@@ -1,63 +1,34 @@
 -- `packed_len` meets its contract. Assumes nothing.
-use Rattle.sheets.specs.Sheet.{readSheet}
-use Rattle.astrephon.proofs.Opens.{Opened, opened-is}
-use Rattle.astrephon.proofs.Transfers.{measured-closed, measured-fault, ranks-fit, measured-at}
+use Rattle.astrephon.proofs.Transfers.{measured-closed, windowed, measured-done}
 use borrow.Author.Needs.{needs}
 use Rattle.astrephon.proofs.carrying.packed_len.Statement.{statement}
 use Rattle.astrephon.proofs.carrying.packed_len.Tie as tie
 
-opened : (c : tie.Else1) → let o = c .before .before .before .before .before .open-element in Opened (readSheet (c .before .before .before .before .before .before .before .before .args .sheet .now)) (c .before .before .before .before .before .before .before .before .args .element) (o .result .selection) (o .last .1 .1 .1 .0)
-opened c = let o = c .before .before .before .before .before .open-element in opened-is 1 _ _ (o .result) _ (o .ensures .0) (o .ensures .1) (c .if1 .left)
+slice-aggregate-open-window : tie.Need-slice-aggregate-open-window
+slice-aggregate-open-window c = search needs
 
-slice-aggregate-open-element : tie.Need-slice-aggregate-open-element
-slice-aggregate-open-element c = search needs
-
-open-element-requires : tie.Need-open-element-requires
-open-element-requires c κs = search needs
+open-window-requires : tie.Need-open-window-requires
+open-window-requires c κs = search needs
 
 returns : tie.Need-returns
-returns c = let o = c .before .before .before .before .before .open-element in measured-closed _ _ (o .result) (o .ensures .0) (c .if1 .taken) _ _
+returns c = let o = c .before .before .before .before .open-window in measured-closed _ _ _ _ (o .result) _ (o .ensures .0) (o .ensures .1) (c .if1 .taken)
 
-range-fault-requires : tie.Need-range-fault-requires
-range-fault-requires c κs = search needs
+slice-aggregate-count : tie.Need-slice-aggregate-count
+slice-aggregate-count c = search needs
 
-refusal-requires : tie.Need-refusal-requires
-refusal-requires c κs = search needs
+count-requires : tie.Need-count-requires
+count-requires c κs = let o = c .before .before .before .before .before .open-window in let W = windowed _ _ _ _ (o .result) _ (o .ensures .0) (o .ensures .1) (c .before .if1 .left) in (W .opened .ok, W .forward)
 
 returns-2 : tie.Need-returns-2
-returns-2 c = measured-fault (opened (c .before .before .before)) _ _ _ (c .before .before .range-fault .ensures) _ (c .refusal2 .ensures) (c .before .if2 .taken)
-
-slice-aggregate-file-rank : tie.Need-slice-aggregate-file-rank
-slice-aggregate-file-rank c = search needs
-
-file-rank-requires : tie.Need-file-rank-requires
-file-rank-requires c κs = opened (c .before .before .before) .ok
-
-slice-aggregate-file-rank-2 : tie.Need-slice-aggregate-file-rank-2
-slice-aggregate-file-rank-2 c = search needs
-
-file-rank-requires-2 : tie.Need-file-rank-requires-2
-file-rank-requires-2 c κs = opened (c .before .before .before .before .before) .ok
-
-sub-count : tie.Need-sub-count
-sub-count c = ranks-fit (opened (c .before .before .before .before .before .before .before .before)) _ _ _ (c .before .before .before .before .before .before .before .range-fault .ensures) (c .before .before .before .before .before .before .if2 .left) _ _ (c .before .before .before .before .file-rank .ensures) (c .before .before .file-rank2 .ensures)
-
-returns-3 : tie.Need-returns-3
-returns-3 c = measured-at (opened (c .before .before .before .before .before .before .before .before)) _ _ _ (c .before .before .before .before .before .before .before .range-fault .ensures) (c .before .before .before .before .before .before .if2 .left) _ _ (c .before .before .before .before .file-rank .ensures) (c .before .before .file-rank2 .ensures)
+returns-2 c = let o = c .before .before .before .before .before .before .open-window in measured-done _ _ _ _ (o .result) _ (o .ensures .0) (o .ensures .1) (c .before .before .if1 .left) _ (c .count .ensures)
 
 pub packed-len-spec : {M : Type 1} → statement M
 packed-len-spec =
     tie.close
     (tie.spec
-    slice-aggregate-open-element
-    open-element-requires
+    slice-aggregate-open-window
+    open-window-requires
     returns
-    range-fault-requires
-    refusal-requires
-    returns-2
-    slice-aggregate-file-rank
-    file-rank-requires
-    slice-aggregate-file-rank-2
-    file-rank-requires-2
-    sub-count
-    returns-3)
+    slice-aggregate-count
+    count-requires
+    returns-2)
