@@ -1,15 +1,17 @@
-//! The answer that 01 asks for to each call. The checks stand in 01's order: sheet 1, sheet 2, element indexes, then 15, 13, 14, 16, 18.
+//! The answer that 01 asks for to each call. The checks stand in 01's order: sheet 1, sheet 2, element indexes, then 15, 13, 14, 16, 17,
+//! 18.
 
+use crate::buffers::{Transfer, Window};
 use crate::element::{Element, END};
-use crate::frame::{Answer, Frame, CHECK, EXACT, INTERVAL_SPAN, INVERSE, NEXT, SHARED_RUNS};
+use crate::frame::{Answer, Frame, CHECK, EXACT, GATHER, INTERVAL_SPAN, INVERSE, MOVE, NEXT, PAIR_MOVE, SCATTER, SHARED_RUNS};
 use crate::layout::Layout;
 use crate::pattern::Pattern;
-use crate::refusal::{Refusal, BEFORE, ELEMENT, FAR, FOREIGN, ROOM, WINDOW};
+use crate::refusal::{Refusal, BEFORE, BUFFER, ELEMENT, FAR, FOREIGN, ROOM, WINDOW};
 use crate::runs::{self, Run};
 use crate::sheet;
 
 /// The calls that this program answers.
-pub const KNOWN: [u8; 6] = [CHECK, EXACT, NEXT, INVERSE, INTERVAL_SPAN, SHARED_RUNS];
+pub const KNOWN: [u8; 10] = [CHECK, EXACT, NEXT, INVERSE, INTERVAL_SPAN, GATHER, SCATTER, MOVE, PAIR_MOVE, SHARED_RUNS];
 
 /// The bytes of a slot, and the slots of a run.
 const SLOT: usize = 8;
@@ -28,6 +30,7 @@ pub fn answer(frame: &Frame) -> Answer {
         NEXT => next(frame),
         INVERSE => inverse(frame),
         INTERVAL_SPAN => interval_span(frame),
+        GATHER | SCATTER | MOVE | PAIR_MOVE => carry(frame),
         SHARED_RUNS => shared_runs(frame),
         other => unreachable!("no frame of this program has the call {other}"),
     };
@@ -60,6 +63,25 @@ fn element(layout: &Layout, index: u64) -> Result<Element, Refused> {
 /// The element of a call with one sheet.
 fn only_element(frame: &Frame) -> Result<Element, Refused> {
     element(&read(&frame.sheet1, 1)?, frame.i)
+}
+
+/// The layouts of a call with two sheets: the first is read to its end before the second.
+fn both_layouts(frame: &Frame) -> Result<[Layout; 2], Refused> {
+    Ok([read(&frame.sheet1, 1)?, read(&frame.sheet2, 2)?])
+}
+
+/// An element of each layout: i of the first, j of the second.
+fn both_elements(frame: &Frame, [one, two]: &[Layout; 2]) -> Result<[Element; 2], Refused> {
+    Ok([element(one, frame.i)?, element(two, frame.j)?])
+}
+
+/// Of a window, BEFORE looks only at the start, which is not below the larger displacement, and FAR only at the end, which is not in it.
+fn window(frame: &Frame, larger_displacement: u64) -> Result<Window, Refused> {
+    let (a, b) = (frame.a, frame.b);
+    refuse_if(a > b, WINDOW)?;
+    refuse_if(a < larger_displacement, BEFORE)?;
+    refuse_if(b > END, FAR)?;
+    Ok((a, b))
 }
 
 fn check(frame: &Frame) -> Result<Answer, Refused> {
@@ -101,16 +123,45 @@ fn interval_span(frame: &Frame) -> Result<Answer, Refused> {
     Ok(Answer::accepted(frame, element.rank(a), element.rank(z)))
 }
 
-/// Of a window, BEFORE looks only at the start and FAR only at the end, which is not in it.
+/// Calls 6 to 9: what each carries, once its sheets and element indexes are sound.
+fn transfer(frame: &Frame) -> Result<Transfer, Refused> {
+    Ok(match frame.call {
+        GATHER => Transfer::gather(only_element(frame)?),
+        SCATTER => Transfer::scatter(only_element(frame)?),
+        MOVE => Transfer::between(&both_layouts(frame)?),
+        PAIR_MOVE => {
+            let layouts = both_layouts(frame)?;
+            Transfer::of_pair(&layouts, both_elements(frame, &layouts)?)
+        }
+        other => unreachable!("call {other} carries nothing"),
+    })
+}
+
+/// The transfer and window of a call that is not refused. Lengths are compared as 64-bit numbers: a window of 2^32 bytes is no empty one.
+fn sound_transfer(frame: &Frame) -> Result<(Transfer, Window), Refused> {
+    let transfer = transfer(frame)?;
+    let window = window(frame, transfer.start())?;
+    let lengths = [&frame.from, &frame.into].map(|buffer| buffer.len() as u64);
+    refuse_if(lengths != transfer.lengths(window), BUFFER)?;
+    Ok((transfer, window))
+}
+
+fn carry(frame: &Frame) -> Result<Answer, Refused> {
+    let (transfer, window) = sound_transfer(frame)?;
+    Ok(Answer { into: transfer.after(window, &frame.from, &frame.into), ..Answer::accepted(frame, 0, 0) })
+}
+
+/// The file offset of the byte at each place of `into`, where a call of 6 to 9 is accepted: for a person who looks at a difference.
+pub fn places(frame: &Frame) -> Option<Vec<u64>> {
+    let carries = [GATHER, SCATTER, MOVE, PAIR_MOVE].contains(&frame.call);
+    let (transfer, window) = carries.then(|| sound_transfer(frame).ok())??;
+    Some(transfer.places(window))
+}
+
 fn shared_runs(frame: &Frame) -> Result<Answer, Refused> {
-    let layout1 = read(&frame.sheet1, 1)?;
-    let layout2 = read(&frame.sheet2, 2)?;
-    let (first, second) = (element(&layout1, frame.i)?, element(&layout2, frame.j)?);
-    let (a, b) = (frame.a, frame.b);
-    refuse_if(a > b, WINDOW)?;
-    refuse_if(a < first.displacement() || a < second.displacement(), BEFORE)?;
-    refuse_if(b > END, FAR)?;
-    let runs = runs::shared(&first, &second, (a, b));
+    let [first, second] = both_elements(frame, &both_layouts(frame)?)?;
+    let window = window(frame, first.displacement().max(second.displacement()))?;
+    let runs = runs::shared(&first, &second, window);
     let room = frame.into.len() / SLOT / SLOTS_OF_A_RUN;
     if runs.len() > room {
         return Err(refused(ROOM, runs.len()));

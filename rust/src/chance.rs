@@ -1,13 +1,15 @@
 //! Frames by chance: accepted layouts of all shapes, with elements, offsets, windows and lists that are mostly sound and often near an
 //! edge, and now and then a sheet that is refused.
 
+use crate::buffers::Window;
 use crate::damage::damaged;
 use crate::edges::wrapping;
 use crate::element::{Element, END};
-use crate::frame::{Frame, CHECK, EXACT, INTERVAL_SPAN, INVERSE, SHARED_RUNS};
+use crate::frame::{has_two_sheets, Frame, CHECK, EXACT, INTERVAL_SPAN, INVERSE, SHARED_RUNS};
 use crate::layout::Layout;
 use crate::random::Random;
 use crate::shapes;
+use crate::transfers::{self, TRANSFERS};
 use crate::windows::Pair;
 use crate::write::sheet;
 
@@ -18,6 +20,7 @@ pub fn frame(random: &mut Random, call: u8) -> Frame {
             Frame::check(damaged(random, layout))
         }
         SHARED_RUNS => shared_runs(random),
+        _ if TRANSFERS.contains(&call) => transfer(random, call),
         _ => of_one_element(random, call),
     }
 }
@@ -49,6 +52,15 @@ fn doubtful_sheet(random: &mut Random) -> Vec<u8> {
     }
 }
 
+/// The sheet of a call that has one, now and then a doubtful one.
+fn only_sheet(random: &mut Random, layout: &Layout) -> Vec<u8> {
+    if random.once_in(8) {
+        doubtful_sheet(random)
+    } else {
+        sheet(layout)
+    }
+}
+
 /// Calls 2 to 5.
 fn of_one_element(random: &mut Random, call: u8) -> Frame {
     let layout = accepted(random);
@@ -60,7 +72,7 @@ fn of_one_element(random: &mut Random, call: u8) -> Frame {
         EXACT if random.once_in(2) => owner(&layout, x).unwrap_or(index) as u64,
         _ => element_index(random, index),
     };
-    let sheet = if random.once_in(8) { doubtful_sheet(random) } else { sheet(&layout) };
+    let sheet = only_sheet(random, &layout);
     match call {
         INVERSE => Frame::mapping(INVERSE, sheet, i, subfile_offset(random, &element)),
         INTERVAL_SPAN => Frame::interval_span(sheet, i, interval(random, &element, x)),
@@ -131,37 +143,41 @@ fn interval(random: &mut Random, element: &Element, x: u64) -> (u64, u64) {
     }
 }
 
-fn shared_runs(random: &mut Random) -> Frame {
+/// An element of each of two accepted layouts.
+fn some_pair(random: &mut Random) -> Pair {
     let one = accepted(random);
     // Once in a while the same elements, further on.
     let two = if random.once_in(6) { Layout { displacement: random.below(100), ..one.clone() } } else { accepted(random) };
     let elements = [random.index(one.elements.len()), random.index(two.elements.len())];
-    let pair = Pair { layouts: [one, two], elements };
-    let window = window(random, &pair);
-    let list = list(random, &pair, window);
-    let mut frame = pair.frame(window, list);
-    frame.i = element_index(random, elements[0]);
-    frame.j = element_index(random, elements[1]);
-    if random.once_in(16) {
-        frame.sheet1 = doubtful_sheet(random);
-    }
-    if random.once_in(12) {
-        frame.sheet2 = doubtful_sheet(random);
-    }
-    frame
+    Pair { layouts: [one, two], elements }
 }
 
-/// Mostly a short window that is accepted. A long one is only made where its end is refused, whatever the sheets turn out to be: nobody
-/// walks it.
-fn window(random: &mut Random, pair: &Pair) -> (u64, u64) {
-    let start = pair.start();
+/// The sheets of a call that has two, now and then doubtful ones.
+fn both_sheets(random: &mut Random, pair: &Pair) -> [Vec<u8>; 2] {
+    let [one, two] = &pair.layouts;
+    let one = if random.once_in(16) { doubtful_sheet(random) } else { sheet(one) };
+    let two = if random.once_in(12) { doubtful_sheet(random) } else { sheet(two) };
+    [one, two]
+}
+
+fn shared_runs(random: &mut Random) -> Frame {
+    let pair = some_pair(random);
     let element = pair.element(random.index(2));
-    let (d, p) = (element.displacement(), element.period());
     let length = match random.below(8) {
         0 => random.long_below(2),
-        1 => random.long_below(4 * p).min(3_000),
+        1 => random.long_below(4 * element.period()).min(3_000),
         _ => random.long_below(80),
     };
+    let window = window(random, pair.start(), &element, length);
+    let list = list(random, &pair, window);
+    let elements = pair.elements.map(|index| element_index(random, index));
+    Frame::shared_runs(both_sheets(random, &pair), elements, window, list)
+}
+
+/// Mostly a window of this length that is accepted, from the larger displacement on, and often at a border of the element's pattern. A
+/// long one is only made where its end is refused, whatever the sheets turn out to be: nobody walks it.
+fn window(random: &mut Random, start: u64, element: &Element, length: u64) -> Window {
+    let (d, p) = (element.displacement(), element.period());
     // The second border from the start on, or a later one.
     let border = d + p * ((start - d) / p + 2 + random.long_below(3));
     let a = match random.below(8) {
@@ -197,6 +213,85 @@ fn list(random: &mut Random, pair: &Pair, window: (u64, u64)) -> Vec<u8> {
         _ => need + random.long_below(4),
     };
     let most = if random.once_in(60) { 1_024 } else { 64 };
-    let bytes = 8 * slots.min(most) + if random.once_in(4) { random.long_below(8) } else { 0 };
-    (0..bytes).map(|_| random.word() as u8).collect()
+    let length = 8 * slots.min(most) + if random.once_in(4) { random.long_below(8) } else { 0 };
+    bytes(random, length)
+}
+
+fn bytes(random: &mut Random, length: u64) -> Vec<u8> {
+    (0..length).map(|_| random.word() as u8).collect()
+}
+
+/// Calls 6 to 9.
+fn transfer(random: &mut Random, call: u8) -> Frame {
+    let mut pair = some_pair(random);
+    let element = pair.element(if has_two_sheets(call) { random.index(2) } else { 0 });
+    let start = if has_two_sheets(call) { pair.start() } else { element.displacement() };
+    let window = match random.below(20) {
+        0 => long_window(random, start, &element),
+        _ => {
+            let length = brief_length(random, &element);
+            window(random, start, &element, length)
+        }
+    };
+    if random.below(4) > 0 {
+        meet(random, &mut pair, window);
+    }
+    let refused = window.0 > window.1 || window.0 < start || window.1 > END;
+    let required = if refused { [7, 5] } else { transfers::transfer(call, &pair).lengths(window) };
+    let buffers = lengths(random, required).map(|length| bytes(random, length));
+    let elements = pair.elements.map(|index| element_index(random, index));
+    let sheets = if has_two_sheets(call) { both_sheets(random, &pair) } else { [only_sheet(random, &pair.layouts[0]), Vec::new()] };
+    transfers::frame(call, sheets, elements, window, buffers)
+}
+
+/// What is carried stands in the frame and in the line: mostly some ten bytes, seldom hundreds, and once in a great while thousands.
+fn brief_length(random: &mut Random, element: &Element) -> u64 {
+    let pattern = element.period();
+    match random.below(80) {
+        0 => 2_000 + random.long_below(2_000),
+        1..=8 => random.long_below(4 * pattern).min(400),
+        9..=14 => random.long_below(2),
+        _ => random.long_below(80),
+    }
+}
+
+/// Of many elements only few have bytes in a short window: take those of one of its offsets.
+fn meet(random: &mut Random, pair: &mut Pair, (a, b): Window) {
+    let x = a.saturating_add(random.long_below(b.saturating_sub(a).max(1)));
+    for (layout, element) in pair.layouts.iter().zip(&mut pair.elements) {
+        *element = owner(layout, x).unwrap_or(*element);
+    }
+}
+
+/// A window that no buffer holds: to the file's end, or so long that 16 or 32 bits of its length are those of a short one.
+fn long_window(random: &mut Random, start: u64, element: &Element) -> Window {
+    let a = start + random.long_below(2 * element.period());
+    let more = random.long_below(60);
+    match random.below(4) {
+        0 => (start, END),
+        1 => (a, END - more),
+        2 => (a, a + (element.period() << 16) + more),
+        _ => (a, END.min(a + (element.period() << 32) + more)),
+    }
+}
+
+/// Mostly those required; else one or both a little wrong.
+fn lengths(random: &mut Random, [from, into]: [u64; 2]) -> [u64; 2] {
+    let lengths = match random.below(36) {
+        0 => [from + 1, into],
+        1 => [from, into + 1],
+        2 => [from.saturating_sub(1), into],
+        3 => [from, into.saturating_sub(1)],
+        4 => [into, from],
+        5 => [random.long_below(from + 1), into],
+        6 => [from, random.long_below(into + 1)],
+        _ => [from, into],
+    };
+    lengths.map(|length| if length > 4_001 { cut_short(random, length) } else { length })
+}
+
+/// The low bits of a length that no buffer of these frames has, where they make a short one.
+fn cut_short(random: &mut Random, length: u64) -> u64 {
+    let low = [length % (1 << 32), length % (1 << 16)];
+    low.into_iter().find(|length| *length <= 200).unwrap_or(random.long_below(40))
 }

@@ -15,7 +15,7 @@ pub fn frames() -> Vec<Frame> {
 
 /// Layouts of short sheets, their displacements from 0 to the largest, their patterns from one byte to 65,536. But for 0 no displacement
 /// is a multiple of its pattern's size: who forgets to subtract it is found out.
-fn layouts() -> Vec<Layout> {
+pub fn layouts() -> Vec<Layout> {
     let from = |displacement, layout: Layout| Layout { displacement, ..layout };
     vec![
         layout_f(),

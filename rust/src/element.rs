@@ -18,6 +18,12 @@ impl Element {
         Element { displacement: u64::from(layout.displacement), selected: Pattern::of(layout).selected(index) }
     }
 
+    /// The elements of an accepted layout, in order.
+    pub fn all(layout: &Layout) -> Vec<Element> {
+        let (displacement, pattern) = (u64::from(layout.displacement), Pattern::of(layout));
+        (0..layout.elements.len()).map(|index| Element { displacement, selected: pattern.selected(index) }).collect()
+    }
+
     pub fn displacement(&self) -> u64 {
         self.displacement
     }

@@ -61,7 +61,7 @@ const FIRST: u64 = 10 + 6;
 const SECOND: u64 = FIRST + 22;
 
 pub fn figures() -> Vec<Figure> {
-    sheets().into_iter().chain(mappings()).chain(shared_runs()).collect()
+    sheets().into_iter().chain(mappings()).chain(trays()).chain(ends()).chain(shared_runs()).collect()
 }
 
 /// Call 1.
@@ -114,6 +114,51 @@ fn mappings() -> Vec<Figure> {
         of("the displacement pushes byte 2^40-1 past the end", INVERSE, &whole_file(1), 0, END - 1, number(FAR)),
         of("byte 2^40-2 is the last before the end", INVERSE, &whole_file(1), 0, END - 2, value(END - 1)),
     ]
+}
+
+/// 01's trays where every byte is its own offset: A's and B's in [0,12) and in [1,5).
+pub const TRAY_A: [u8; 12] = [0, 1, 6, 7, 2, 3, 8, 9, 4, 5, 10, 11];
+pub const TRAY_B: [u8; 12] = [0, 2, 4, 6, 8, 10, 1, 3, 5, 7, 9, 11];
+pub const LATE_TRAY_A: [u8; 4] = [1, 2, 3, 4];
+pub const LATE_TRAY_B: [u8; 4] = [2, 4, 1, 3];
+
+/// Call 8, into a tray of other bytes. The tray of one element of all bytes is in file order: moved from it, they make a layout's tray.
+fn trays() -> Vec<Figure> {
+    let of = |name, layouts: [&Layout; 2], window, from: &[u8], into: &[u8]| {
+        let trays = [from.to_vec(), vec![238; into.len()]];
+        Figure { name, frame: Frame::tray_move(layouts.map(sheet), window, trays), answer: Answer { into: into.to_vec(), ..value(0) } }
+    };
+    let (a, b, file) = (layout_a(), layout_b(), whole_file(0));
+    let offsets: Vec<u8> = (0..12).collect();
+    vec![
+        of("A's tray of [0,12)", [&file, &a], (0, 12), &offsets, &TRAY_A),
+        of("B's tray of [0,12)", [&file, &b], (0, 12), &offsets, &TRAY_B),
+        of("from A's tray to B's in [0,12)", [&a, &b], (0, 12), &TRAY_A, &TRAY_B),
+        of("from B's tray to A's in [0,12)", [&b, &a], (0, 12), &TRAY_B, &TRAY_A),
+        of("A's tray of [1,5)", [&file, &a], (1, 5), &offsets[1..5], &LATE_TRAY_A),
+        of("B's tray of [1,5)", [&file, &b], (1, 5), &offsets[1..5], &LATE_TRAY_B),
+        of("from A's tray to B's in [1,5)", [&a, &b], (1, 5), &LATE_TRAY_A, &LATE_TRAY_B),
+        of("from B's tray to A's in [1,5)", [&b, &a], (1, 5), &LATE_TRAY_B, &LATE_TRAY_A),
+    ]
+}
+
+/// The window ends 2^40 and 2^40+1 of calls 6 to 9, where one element has every byte: whatever is carried is the source.
+fn ends() -> Vec<Figure> {
+    let file = || sheet(&whole_file(0));
+    let of = |end: u64| {
+        let (window, from, into) = ((END - 3, end), vec![1, 2, 3], vec![9, 9, 9]);
+        let trays = [from.clone(), into.clone()];
+        vec![
+            Frame::gather(file(), 0, window, from.clone(), into.clone()),
+            Frame::scatter(file(), 0, window, from, into),
+            Frame::tray_move([file(), file()], window, trays.clone()),
+            Frame::pair_move([file(), file()], [0, 0], window, trays),
+        ]
+    };
+    let figure = |name, frame, answer, into: [u8; 3]| Figure { name, frame, answer: Answer { into: into.to_vec(), ..answer } };
+    let accepted = of(END).into_iter().map(|frame| figure("the window end 2^40 is accepted", frame, value(0), [1, 2, 3]));
+    let far = of(END + 1).into_iter().map(|frame| figure("the window end 2^40+1 is FAR", frame, number(FAR), [9, 9, 9]));
+    accepted.chain(far).collect()
 }
 
 /// A list of so many slots that are no run's: each names itself.

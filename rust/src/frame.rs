@@ -2,13 +2,22 @@
 
 use crate::refusal::Refusal;
 
-/// The calls by their number. 6 to 9 and 11 are not there yet.
+/// The calls by their number. 11 is not there yet.
 pub const CHECK: u8 = 1;
 pub const EXACT: u8 = 2;
 pub const NEXT: u8 = 3;
 pub const INVERSE: u8 = 4;
 pub const INTERVAL_SPAN: u8 = 5;
+pub const GATHER: u8 = 6;
+pub const SCATTER: u8 = 7;
+pub const MOVE: u8 = 8;
+pub const PAIR_MOVE: u8 = 9;
 pub const SHARED_RUNS: u8 = 10;
+
+/// Whether a call has a second sheet.
+pub fn has_two_sheets(call: u8) -> bool {
+    [MOVE, PAIR_MOVE, SHARED_RUNS].contains(&call)
+}
 
 /// The most bytes that may follow a frame's first number.
 pub const MOST: usize = 65_532;
@@ -47,6 +56,27 @@ impl Frame {
     /// The span of an interval with both ends meant.
     pub fn interval_span(sheet: Vec<u8>, i: u64, (a, z): (u64, u64)) -> Frame {
         Frame { call: INTERVAL_SPAN, i, a, b: z, sheet1: sheet, ..Frame::default() }
+    }
+
+    /// From a file buffer to a packed one: the bytes of element i in [a, b).
+    pub fn gather(sheet: Vec<u8>, i: u64, (a, b): (u64, u64), file: Vec<u8>, packed: Vec<u8>) -> Frame {
+        Frame { call: GATHER, i, a, b, sheet1: sheet, from: file, into: packed, ..Frame::default() }
+    }
+
+    /// From a packed buffer to a file buffer.
+    pub fn scatter(sheet: Vec<u8>, i: u64, (a, b): (u64, u64), packed: Vec<u8>, file: Vec<u8>) -> Frame {
+        Frame { call: SCATTER, i, a, b, sheet1: sheet, from: packed, into: file, ..Frame::default() }
+    }
+
+    /// The move from the tray of sheet 1 to that of sheet 2. (`move` is Rust's own word.)
+    pub fn tray_move(sheets: [Vec<u8>; 2], (a, b): (u64, u64), trays: [Vec<u8>; 2]) -> Frame {
+        let ([sheet1, sheet2], [from, into]) = (sheets, trays);
+        Frame { call: MOVE, a, b, sheet1, sheet2, from, into, ..Frame::default() }
+    }
+
+    /// Of that move only the bytes that element i of sheet 1 shares with j of sheet 2.
+    pub fn pair_move(sheets: [Vec<u8>; 2], [i, j]: [u64; 2], window: (u64, u64), trays: [Vec<u8>; 2]) -> Frame {
+        Frame { call: PAIR_MOVE, i, j, ..Frame::tray_move(sheets, window, trays) }
     }
 
     /// The runs that element i of sheet 1 and j of sheet 2 share in [a, b), for a list of 8 bytes a slot.

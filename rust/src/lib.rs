@@ -1,10 +1,12 @@
 //! A second reading of the paper 01, from its definitions alone and with no line of the library's code, to compare the library with.
 //!
-//! `calls` answers, by way of `sheet`, `pattern`, `element` and `runs`; `write` makes sheets. What is asked are the `figures`, sheets at
-//! the `bounds`, calls at the `edges`, shared runs in `windows`, and calls by `chance` with sheets of all `shapes` and every `damage`, put
-//! together by `generate`. `frame` is how it is asked and answered; `spelled` says a frame in words.
+//! `calls` answers, by way of `sheet`, `pattern`, `element`, `runs` and `buffers`; `write` makes sheets. What is asked are the `figures`,
+//! sheets at the `bounds`, calls at the `edges`, shared runs in `windows`, `transfers` from buffer to buffer, and calls by `chance` with
+//! sheets of all `shapes` and every `damage`, put together by `generate`. `frame` is how it is asked and answered; `spelled` says a frame
+//! in words.
 
 pub mod bounds;
+pub mod buffers;
 pub mod calls;
 pub mod chance;
 pub mod damage;
@@ -21,5 +23,6 @@ pub mod runs;
 pub mod shapes;
 pub mod sheet;
 pub mod spelled;
+pub mod transfers;
 pub mod windows;
 pub mod write;

@@ -16,6 +16,7 @@ pub const BEFORE: u8 = 13;
 pub const FAR: u8 = 14;
 pub const WINDOW: u8 = 15;
 pub const FOREIGN: u8 = 16;
+pub const BUFFER: u8 = 17;
 pub const ROOM: u8 = 18;
 
 pub const NO_FLAG: u8 = 0;

@@ -1,6 +1,7 @@
 //! A frame and a line in words, for a person who looks at a difference.
 
-use crate::frame::{Frame, CHECK, EXACT, INTERVAL_SPAN, INVERSE, NEXT, SHARED_RUNS};
+use crate::calls;
+use crate::frame::{has_two_sheets, Frame, CHECK, EXACT, GATHER, INTERVAL_SPAN, INVERSE, MOVE, NEXT, PAIR_MOVE, SCATTER, SHARED_RUNS};
 use crate::refusal::{HOLE, NAMES, OVERLAP};
 use crate::sheet::{ELEMENT, FAMILY, HEADER};
 
@@ -12,20 +13,37 @@ const MOST_BYTES_SHOWN: usize = 48;
 
 /// What was asked, if it was a frame, what was to be printed, and what was, if anything.
 pub fn difference(asked: Option<&Frame>, expected: &str, printed: Option<&str>) -> String {
-    let asked = asked.map_or(String::from("bytes that are no frame\n"), frame);
+    let question = asked.map_or(String::from("bytes that are no frame\n"), frame);
     let got = printed.map_or(String::from("nothing: the lines end"), line);
-    let differing = printed.and_then(|printed| buffers(expected, printed)).map_or(String::new(), |place| format!("\n  {place}"));
-    format!("{asked}  expected {}\n  printed  {got}{differing}", line(expected))
+    let differing = printed.and_then(|printed| buffers(asked, expected, printed)).map_or(String::new(), |place| format!("\n  {place}"));
+    format!("{question}  expected {}\n  printed  {got}{differing}", line(expected))
 }
 
 fn frame(frame: &Frame) -> String {
     let mut out = call(frame) + "\n";
     out += &format!("  sheet 1, {} bytes\n{}", frame.sheet1.len(), sheet(&frame.sheet1));
-    if frame.call == SHARED_RUNS {
+    if has_two_sheets(frame.call) {
         out += &format!("  sheet 2, {} bytes\n{}", frame.sheet2.len(), sheet(&frame.sheet2));
-        out += &format!("  the list before the call, {} bytes: {}\n", frame.into.len(), shown(&frame.into));
+    }
+    let (from, into) = buffer_names(frame.call);
+    if let Some(from) = from {
+        out += &format!("  {from}, {} bytes: {}\n", frame.from.len(), shown(&frame.from));
+    }
+    if let Some(into) = into {
+        out += &format!("  {into} before the call, {} bytes: {}\n", frame.into.len(), shown(&frame.into));
     }
     out
+}
+
+/// What a call has as source and as destination, if anything.
+fn buffer_names(call: u8) -> (Option<&'static str>, Option<&'static str>) {
+    match call {
+        GATHER => (Some("the file buffer"), Some("the packed buffer")),
+        SCATTER => (Some("the packed buffer"), Some("the file buffer")),
+        MOVE | PAIR_MOVE => (Some("the tray of sheet 1"), Some("the tray of sheet 2")),
+        SHARED_RUNS => (None, Some("the list")),
+        _ => (None, None),
+    }
 }
 
 /// What is asked, in the words of 01.
@@ -36,6 +54,10 @@ fn call(Frame { call, i, j, a, b, into, .. }: &Frame) -> String {
         NEXT => format!("next mapping of file offset {a} in element {i}"),
         INVERSE => format!("inverse: the file offset of byte {a} of element {i}"),
         INTERVAL_SPAN => format!("interval span from file offset {a} to {b}, both meant, in element {i}"),
+        GATHER => format!("gather of the bytes of element {i} in the window [{a}, {b})"),
+        SCATTER => format!("scatter of the bytes of element {i} in the window [{a}, {b})"),
+        MOVE => format!("move from the tray of sheet 1 to the tray of sheet 2 in the window [{a}, {b})"),
+        PAIR_MOVE => format!("pair move of the bytes shared by element {i} of sheet 1 and element {j} of sheet 2 in the window [{a}, {b})"),
         SHARED_RUNS => {
             let slots = into.len() / 8;
             format!("shared runs of element {i} of sheet 1 and element {j} of sheet 2 in the window [{a}, {b}), a list of {slots} slots")
@@ -109,13 +131,28 @@ fn cut(line: &str) -> String {
     out
 }
 
-/// Where the buffers of two lines first differ, if they do, in bytes and in slots of 8 bytes; with the slot's number in either.
-fn buffers(expected: &str, printed: &str) -> Option<String> {
+/// Where the buffers of two lines first differ, if they do.
+fn buffers(asked: Option<&Frame>, expected: &str, printed: &str) -> Option<String> {
     let (expected, printed) = (expected.split(' ').nth(6)?, printed.split(' ').nth(6)?);
     let digits = expected.len().max(printed.len());
     let byte = (0..digits).find(|place| expected.as_bytes().get(*place) != printed.as_bytes().get(*place))? / 2;
-    let slot = byte / 8;
-    Some(format!("the buffers differ at byte {byte}: slot {slot} is to be {}, and is {}", number(expected, slot), number(printed, slot)))
+    let what = match asked {
+        Some(frame) if frame.call != SHARED_RUNS => differing_byte(frame, byte, expected, printed),
+        _ => differing_slot(byte / 8, expected, printed),
+    };
+    Some(format!("the buffers differ at byte {byte}: {what}"))
+}
+
+/// A byte in either line, and its file offset where the call is accepted.
+fn differing_byte(frame: &Frame, byte: usize, expected: &str, printed: &str) -> String {
+    let digits = |buffer: &str| buffer.get(2 * byte..2 * byte + 2).map_or(String::from("no byte"), String::from);
+    let offset = calls::places(frame).and_then(|places| places.get(byte).map(|x| format!("file offset {x} ")));
+    format!("{}is to be {}, and is {}", offset.unwrap_or(String::from("it ")), digits(expected), digits(printed))
+}
+
+/// The number of a slot in either line.
+fn differing_slot(slot: usize, expected: &str, printed: &str) -> String {
+    format!("slot {slot} is to be {}, and is {}", number(expected, slot), number(printed, slot))
 }
 
 /// The number in a slot, from digits that have its lowest byte first.

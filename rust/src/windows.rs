@@ -1,5 +1,5 @@
 //! Call 10 at the edges: windows at the displacements, the patterns' borders and 2^40, lists with just enough room and with a slot or a
-//! byte less, and calls with two faults at once.
+//! byte less, and calls with two faults at once. The pairs and windows also serve the moves.
 
 use crate::bounds::one_of_each;
 use crate::element::{Element, END};
@@ -33,6 +33,27 @@ impl Pair {
         runs::shared(&self.element(0), &self.element(1), (a, b)).len() as u64
     }
 
+    /// Windows that are accepted: empty, short, across either pattern's border, and up to the file's end. A border is so far on that
+    /// nothing before it is BEFORE, even in a pattern of one byte.
+    pub fn windows(&self) -> [(u64, u64); 8] {
+        let start = self.start();
+        let border = |side: usize| {
+            let element = self.element(side);
+            let into_pattern = (start - element.displacement()) % element.period();
+            start - into_pattern + 4 * element.period()
+        };
+        [
+            (start, start),
+            (start, start + 1),
+            (start, start + 24),
+            (start + 1, start + 40),
+            (border(0) - 3, border(0) + 5),
+            (border(1) - 3, border(1) + 5),
+            (END - 24, END),
+            (END, END),
+        ]
+    }
+
     pub fn frame(&self, window: (u64, u64), list: Vec<u8>) -> Frame {
         let [one, two] = &self.layouts;
         Frame::shared_runs([sheet(one), sheet(two)], self.elements.map(|index| index as u64), window, list)
@@ -44,19 +65,24 @@ pub fn frames() -> Vec<Frame> {
     [pairs.iter().flat_map(accepted).collect(), refused(), rooms(), indexes(), refused_sheets(), long_lists()].concat()
 }
 
-fn pair(one: Layout, two: Layout, elements: [usize; 2]) -> Pair {
+pub fn pair(one: Layout, two: Layout, elements: [usize; 2]) -> Pair {
     Pair { layouts: [one, two], elements }
 }
 
-fn from(displacement: u32, layout: Layout) -> Layout {
+pub fn from(displacement: u32, layout: Layout) -> Layout {
     Layout { displacement, ..layout }
 }
 
-fn pairs() -> Vec<Pair> {
+/// The panel's frame by row: six rows an element.
+pub fn rows() -> Layout {
+    layout((0..4).map(|e| vec![run(480 * e, 480 * e + 479)]).collect())
+}
+
+/// Elements of short sheets: of patterns from one byte to 65,536, with displacements from 0 to the largest.
+pub fn pairs() -> Vec<Pair> {
     // Element 0 has 0 to 5 in two families and 7, so that in the file it runs on from 7 through the next pattern's 5.
     let touching = layout(vec![vec![run(0, 2), run(3, 5), run(7, 7)], vec![run(6, 6)]]);
     let fifths = layout(vec![vec![run(0, 3)], vec![run(4, 4)]]);
-    let rows = layout((0..4).map(|e| vec![run(480 * e, 480 * e + 479)]).collect());
     let odd_and_even = layout(vec![vec![family(0, 0, 2, 32_768)], vec![family(1, 1, 2, 32_768)]]);
     let halves = layout(vec![vec![run(0, 32_766)], vec![run(32_767, 65_534)]]);
     vec![
@@ -68,68 +94,57 @@ fn pairs() -> Vec<Pair> {
         pair(layout_b(), layout_b(), [0, 1]),
         pair(from(3, touching.clone()), whole_file(0), [0, 0]),
         pair(touching, from(2, fifths), [0, 0]),
-        pair(layout_c(), rows, [1, 2]),
+        pair(layout_c(), rows(), [1, 2]),
         pair(from(7, odd_and_even), from(65_534, halves), [1, 1]),
         pair(from(u32::MAX, layout_a()), from(u32::MAX - 1, layout_a()), [1, 1]),
     ]
 }
 
-/// Windows that are accepted: empty, short, across either pattern's border, and up to the file's end; a border is so far on that nothing
-/// before it is BEFORE, even in a pattern of one byte. Each list has just the room that is needed, then one to three slots or some bytes
-/// more.
+/// Windows that are accepted. Each list has just the room that is needed, then one to three slots or some bytes more.
 fn accepted(pair: &Pair) -> Vec<Frame> {
-    let start = pair.start();
-    let border = |side: usize| {
-        let element = pair.element(side);
-        let into_pattern = (start - element.displacement()) % element.period();
-        start - into_pattern + 4 * element.period()
-    };
-    let windows = [
-        (start, start),
-        (start, start + 1),
-        (start, start + 24),
-        (start + 1, start + 40),
-        (border(0) - 3, border(0) + 5),
-        (border(1) - 3, border(1) + 5),
-        (END - 24, END),
-        (END, END),
-    ];
     let list = |place: usize, window| {
         let mut list = slots(4 * pair.runs(window) + place as u64 % 4);
         list.extend(vec![165; place / 4 * 3]);
         list
     };
-    windows.iter().enumerate().map(|(place, window)| pair.frame(*window, list(place, *window))).collect()
+    pair.windows().iter().enumerate().map(|(place, window)| pair.frame(*window, list(place, *window))).collect()
 }
 
-/// Windows that are refused, with one fault or two, on either side of the larger displacement. A list that is too short changes nothing.
+/// A pair whose larger displacement is the second, and the same turned: both refuse all of `REFUSED`.
+pub fn late_pairs() -> [Pair; 2] {
+    let late = |one, two| pair(from(one, layout_a()), from(two, layout_b()), [0, 0]);
+    [late(10, 20), late(20, 10)]
+}
+
+/// Windows that are refused, with one fault or two, where the larger displacement is 20 and the other, if any, is 10.
+pub const REFUSED: [(u64, u64); 18] = [
+    // BEFORE of one displacement, of both, where nothing is in the window, and where its end is FAR.
+    (19, 30),
+    (10, 30),
+    (9, 30),
+    (19, 19),
+    (0, 0),
+    (19, END + 1),
+    (0, u64::MAX),
+    // FAR by one, with nothing in the window, and by far.
+    (20, END + 1),
+    (END, END + 1),
+    (END + 1, END + 1),
+    (20, u64::MAX),
+    (u64::MAX, u64::MAX),
+    // WINDOW, whatever its ends are.
+    (21, 20),
+    (20, 19),
+    (19, 18),
+    (END + 1, END),
+    (END + 2, END + 1),
+    (u64::MAX, 0),
+];
+
+/// A list that is too short changes nothing.
 fn refused() -> Vec<Frame> {
-    let late = pair(from(10, layout_a()), from(20, layout_b()), [0, 0]);
-    let turned = pair(from(20, layout_a()), from(10, layout_b()), [0, 0]);
-    let windows = [
-        // BEFORE of one displacement, of both, where nothing is in the window, and where its end is FAR.
-        (19, 30),
-        (10, 30),
-        (9, 30),
-        (19, 19),
-        (0, 0),
-        (19, END + 1),
-        (0, u64::MAX),
-        // FAR by one, with nothing in the window, and by far.
-        (20, END + 1),
-        (END, END + 1),
-        (END + 1, END + 1),
-        (20, u64::MAX),
-        (u64::MAX, u64::MAX),
-        // WINDOW, whatever its ends are.
-        (21, 20),
-        (20, 19),
-        (19, 18),
-        (END + 1, END),
-        (END + 2, END + 1),
-        (u64::MAX, 0),
-    ];
-    windows.iter().flat_map(|window| [late.frame(*window, slots(4)), turned.frame(*window, Vec::new())]).collect()
+    let [late, turned] = late_pairs();
+    REFUSED.iter().flat_map(|window| [late.frame(*window, slots(4)), turned.frame(*window, Vec::new())]).collect()
 }
 
 /// Lists with a run's room too little, a slot too little, a byte too little, just enough, and more.

@@ -1,9 +1,11 @@
 //! What the frames reach, that a frame can be read back, and that its bad ends are bad.
 
 use comparison::calls::{answer, KNOWN};
-use comparison::frame::{Answer, Frame, CHECK, EXACT, INTERVAL_SPAN, INVERSE, NEXT, SHARED_RUNS};
+use comparison::frame::{has_two_sheets, Answer, Frame};
+use comparison::frame::{CHECK, EXACT, GATHER, INTERVAL_SPAN, INVERSE, MOVE, NEXT, PAIR_MOVE, SCATTER, SHARED_RUNS};
 use comparison::generate::{bad_end, by_chance, frames, BAD_ENDS, CALLS, KEPT};
-use comparison::refusal::{BEFORE, ELEMENT, FAR, FOREIGN, HOLE, NO_FLAG, OVERLAP, ROOM, WINDOW};
+use comparison::refusal::{BEFORE, BUFFER, ELEMENT, FAR, FOREIGN, HOLE, NO_FLAG, OVERLAP, ROOM, WINDOW};
+use comparison::transfers::TRANSFERS;
 use std::sync::OnceLock;
 
 /// How often each refusal is to be met, by call 1 in a sheet and by the other calls in what else they check.
@@ -52,11 +54,16 @@ fn check_meets_every_refusal_of_a_sheet_often() {
 
 #[test]
 fn every_other_call_meets_its_own_refusals_often_and_no_others() {
-    let own: [(u8, &[u8]); 5] = [
+    let own: [(u8, &[u8]); 9] = [
         (EXACT, &[0, ELEMENT, BEFORE, FAR, FOREIGN]),
         (NEXT, &[0, ELEMENT, BEFORE, FAR]),
         (INVERSE, &[0, ELEMENT, FAR]),
         (INTERVAL_SPAN, &[0, ELEMENT, BEFORE, FAR, WINDOW]),
+        (GATHER, &[0, ELEMENT, BEFORE, FAR, WINDOW, BUFFER]),
+        (SCATTER, &[0, ELEMENT, BEFORE, FAR, WINDOW, BUFFER]),
+        // The one call without an element index.
+        (MOVE, &[0, BEFORE, FAR, WINDOW, BUFFER]),
+        (PAIR_MOVE, &[0, ELEMENT, BEFORE, FAR, WINDOW, BUFFER]),
         (SHARED_RUNS, &[0, ELEMENT, BEFORE, FAR, WINDOW, ROOM]),
     ];
     for (call, own) in own {
@@ -77,7 +84,7 @@ fn every_call_meets_every_refusal_of_a_sheet() {
     for call in KNOWN {
         let answers = answers(call);
         let met = |number: u8, flag: u8, sheet: u8| answers.iter().any(|a| (a.number, a.flag, a.sheet) == (number, flag, sheet));
-        for sheet in if call == SHARED_RUNS { vec![1, 2] } else { vec![1] } {
+        for sheet in if has_two_sheets(call) { vec![1, 2] } else { vec![1] } {
             let unflagged = [1, 2, 3, 4, 6, 7, 8, 9, 10].into_iter().all(|number| met(number, NO_FLAG, sheet));
             assert!(unflagged && met(11, HOLE, sheet) && met(11, OVERLAP, sheet), "call {call}, sheet {sheet}");
         }
@@ -86,11 +93,13 @@ fn every_call_meets_every_refusal_of_a_sheet() {
 
 #[test]
 fn either_sheet_is_refused_often_and_no_sheet_is_named_where_none_is_at_fault() {
-    let answers = answers(SHARED_RUNS);
-    for sheet in [1, 2] {
-        assert!(answers.iter().filter(|answer| answer.sheet == sheet).count() >= 5);
+    for call in KNOWN.into_iter().filter(|call| has_two_sheets(*call)) {
+        let answers = answers(call);
+        for sheet in [1, 2] {
+            assert!(answers.iter().filter(|answer| answer.sheet == sheet).count() >= 5, "call {call}");
+        }
+        assert!(answers.iter().all(|answer| (answer.sheet > 0) == (1..=11).contains(&answer.number)), "call {call}");
     }
-    assert!(answers.iter().all(|answer| (answer.sheet > 0) == (1..=11).contains(&answer.number)));
 }
 
 #[test]
@@ -104,25 +113,63 @@ fn runs_are_long_and_many_now_and_then() {
     assert!(with(|answer| answer.into.len() > 1_024) <= 10);
 }
 
+/// The frames of a call that are accepted, with the destination after it.
+fn carried(call: u8) -> Vec<(&'static Frame, Vec<u8>)> {
+    let answered = kept().iter().filter(|frame| frame.call == call).map(|frame| (frame, answer(frame)));
+    answered.filter(|(_, answer)| answer.number == 0).map(|(frame, answer)| (frame, answer.into)).collect()
+}
+
+/// Who copies nothing, or plainly from the source's front, is found out by each call of 6 to 9; and by a pair move, who moves all.
+#[test]
+fn what_is_carried_can_be_told_from_what_is_not() {
+    for call in TRANSFERS {
+        let carried = carried(call);
+        let with = |meets: &dyn Fn(&Frame, &Vec<u8>) -> bool| carried.iter().filter(|(frame, into)| meets(frame, into)).count();
+        let copied = |frame: &Frame, into: &Vec<u8>| frame.from.iter().zip(into).all(|(from, into)| from == into);
+        let idle = with(&|frame, into| frame.into == *into && !frame.into.is_empty());
+        let works = with(&|frame, into| frame.into != *into && !copied(frame, into));
+        assert!(works >= 4 * OFTEN, "call {call}: {works} of {} are no plain copy", carried.len());
+        assert!(call != PAIR_MOVE || idle >= OFTEN, "{idle} pairs share nothing");
+        let moves_all = |frame: &Frame| answer(&Frame { call: MOVE, i: 0, j: 0, ..frame.clone() }).into;
+        let partly = with(&|frame, into| call == PAIR_MOVE && frame.into != *into && moves_all(frame) != *into);
+        assert!(call != PAIR_MOVE || partly >= 4 * OFTEN, "{partly} pairs share a part");
+        let empty = with(&|frame, _| frame.a == frame.b);
+        let at_the_end = with(&|frame, _| frame.b == 1 << 40 && frame.a < frame.b);
+        assert!(empty >= OFTEN && at_the_end >= OFTEN, "call {call}: {empty} empty windows, {at_the_end} at the end");
+    }
+}
+
+/// Buffers are short but for a few, since they stand in the frames and in the lines.
+#[test]
+fn few_buffers_are_long() {
+    for call in TRANSFERS {
+        let longest: Vec<usize> = carried(call).iter().map(|(frame, into)| frame.from.len().max(into.len())).collect();
+        let above = |length: usize| longest.iter().filter(|longest| **longest > length).count();
+        assert!((2..=10).contains(&above(1_500)), "call {call}: {} of more than 1,500 bytes", above(1_500));
+        assert!(above(2_048) >= 1, "call {call}: none of more than 2,048 bytes");
+        assert!(above(300) <= 25 && above(8_000) == 0, "call {call}: {} of more than 300 bytes", above(300));
+    }
+}
+
 /// What a call does not use is 0 or empty.
 #[test]
 fn a_frame_has_nothing_that_its_call_does_not_use() {
     for frame in kept() {
-        assert!(frame.from.is_empty());
-        if frame.call != SHARED_RUNS {
-            assert!(frame.j == 0 && frame.sheet2.is_empty() && frame.into.is_empty());
-            assert!(frame.b == 0 || frame.call == INTERVAL_SPAN);
-        }
-        if frame.call == CHECK {
-            assert!(frame.i == 0 && frame.a == 0);
-        }
+        let uses = |calls: &[u8]| calls.contains(&frame.call) || TRANSFERS.contains(&frame.call);
+        assert!(frame.sheet2.is_empty() || has_two_sheets(frame.call));
+        assert!(frame.i == 0 || ![CHECK, MOVE].contains(&frame.call));
+        assert!(frame.j == 0 || [PAIR_MOVE, SHARED_RUNS].contains(&frame.call));
+        assert!(frame.a == 0 || frame.call != CHECK);
+        assert!(frame.b == 0 || uses(&[INTERVAL_SPAN, SHARED_RUNS]));
+        assert!(frame.from.is_empty() || uses(&[]));
+        assert!(frame.into.is_empty() || uses(&[SHARED_RUNS]));
     }
 }
 
 #[test]
 fn the_kept_frames_are_few_enough_to_keep() {
     let bytes = kept().iter().map(|frame| frame.bytes().len()).sum::<usize>() + bad_end(KEPT.0).len();
-    assert!(bytes < 1_500_000, "{bytes} bytes");
+    assert!(bytes < 2_000_000, "{bytes} bytes");
 }
 
 /// Of many seeds: two faults in one sheet must not stop the program that makes them, nor a window that is too long the one that answers.

@@ -1,5 +1,6 @@
 //! A difference is told so that a person can see the call, the two lines and where they part.
 
+use comparison::calls::answer;
 use comparison::figures::{layout_b, layout_f, slots};
 use comparison::frame::{Answer, Frame, EXACT, INVERSE, NEXT};
 use comparison::spelled::difference;
@@ -19,6 +20,16 @@ fn a_call_in_the_words_of_01() {
         (Frame::mapping(NEXT, f(), 1, 6), "next mapping of file offset 6 in element 1"),
         (Frame::mapping(INVERSE, f(), 1, 2), "inverse: the file offset of byte 2 of element 1"),
         (Frame::interval_span(f(), 1, (4, 11)), "interval span from file offset 4 to 11, both meant, in element 1"),
+        (Frame::gather(f(), 1, (2, 14), vec![7; 12], vec![0; 4]), "gather of the bytes of element 1 in the window [2, 14)"),
+        (Frame::scatter(f(), 2, (2, 14), vec![7; 4], vec![0; 12]), "scatter of the bytes of element 2 in the window [2, 14)"),
+        (
+            Frame::tray_move([f(), sheet(&layout_b())], (2, 14), [vec![7; 12], vec![0; 12]]),
+            "move from the tray of sheet 1 to the tray of sheet 2 in the window [2, 14)",
+        ),
+        (
+            Frame::pair_move([f(), sheet(&layout_b())], [2, 1], (2, 14), [vec![7; 12], vec![0; 12]]),
+            "pair move of the bytes shared by element 2 of sheet 1 and element 1 of sheet 2 in the window [2, 14)",
+        ),
         (
             Frame::shared_runs([f(), sheet(&layout_b())], [1, 0], (2, 14), slots(9)),
             "shared runs of element 1 of sheet 1 and element 0 of sheet 2 in the window [2, 14), a list of 9 slots",
@@ -37,6 +48,50 @@ fn sheets_and_lines_are_shown() {
     }
     assert!(both.contains("'16 0 0 0 0 0 -': FOREIGN; sheet 0, place 0, values 0 and 0, no buffer"), "{both}");
     assert!(difference(None, "bad frame", None).contains("nothing: the lines end"));
+}
+
+#[test]
+fn both_buffers_are_shown_with_their_names() {
+    let (f, b) = (sheet(&layout_f()), sheet(&layout_b()));
+    let (bytes, zeros) = (|many: usize| vec![171; many], |many: usize| vec![0; many]);
+    let shown = [
+        (
+            Frame::gather(f.clone(), 1, (2, 5), bytes(3), zeros(1)),
+            ["  the file buffer, 3 bytes: ab ab ab\n", "  the packed buffer before the call, 1 bytes: 00\n"],
+        ),
+        (
+            Frame::scatter(f.clone(), 1, (2, 5), bytes(1), zeros(3)),
+            ["  the packed buffer, 1 bytes: ab\n", "  the file buffer before the call, 3 bytes: 00 00 00\n"],
+        ),
+        (
+            Frame::tray_move([f.clone(), b.clone()], (2, 4), [bytes(2), zeros(2)]),
+            ["  the tray of sheet 1, 2 bytes: ab ab\n", "  the tray of sheet 2 before the call, 2 bytes: 00 00\n"],
+        ),
+        (
+            Frame::pair_move([f, b], [0, 0], (2, 4), [bytes(2), zeros(2)]),
+            ["sheet 2, 66 bytes", "  the tray of sheet 2 before the call, 2 bytes: 00 00\n"],
+        ),
+    ];
+    for (frame, parts) in shown {
+        let told = told(&frame);
+        assert!(parts.iter().all(|part| told.contains(part)), "{told}");
+    }
+}
+
+/// B's tray of [2, 14) has 2 4 6 8 10 12 and then 3 5 ..
+#[test]
+fn a_byte_that_differs_is_told_with_its_file_offset() {
+    let frame = Frame::tray_move([sheet(&layout_f()), sheet(&layout_b())], (2, 14), [(0..12).collect(), vec![0; 12]]);
+    let right = answer(&frame);
+    let mut wrong = right.clone();
+    wrong.into[7] = 255;
+    let told_of = |frame: &Frame, printed: &str| difference(Some(frame), &right.line(), Some(printed));
+    let told = told_of(&frame, &wrong.line());
+    assert!(told.ends_with("the buffers differ at byte 7: file offset 5 is to be 05, and is ff"), "{told}");
+    // A buffer that is too short, and one of a call that is refused.
+    wrong.into.truncate(7);
+    assert!(told_of(&frame, &wrong.line()).ends_with("at byte 7: file offset 5 is to be 05, and is no byte"));
+    assert!(told_of(&Frame { b: 13, ..frame }, &wrong.line()).ends_with("at byte 7: it is to be 05, and is no byte"));
 }
 
 #[test]
