@@ -61,8 +61,11 @@ module _ (xs : List ℕ) where
 
   -- in a whole frame the numbers and the blobs stand in the frame
   module _ (whole : Whole xs) where
+    pub third-fits : end3 xs ≤ length xs
+    third-fits = omega (arith, blob-grows (end3 xs))
+
     pub second-fits : end2 xs ≤ length xs
-    second-fits = omega (arith, blob-grows (end2 xs), blob-grows (end3 xs))
+    second-fits = omega (arith, third-fits, blob-grows (end2 xs))
 
     pub first-fits : (37 ≤ end1 xs) × (end1 xs ≤ length xs)
     first-fits = (omega (arith, blob-grows 33), omega (arith, second-fits, blob-grows (end1 xs)))

@@ -6,6 +6,7 @@ use Prim.Native.Nat.{ℕ, _/_}
 use borrow.Author.Tests.{eq-eqb, ne-eqb}
 use lib.Dec.{eqb}
 use lib.ListN.{length}
+use Rattle.astrephon.specs.declared.Carried.{Carried}
 use Rattle.astrephon.specs.declared.Listed.{Listed}
 use Rattle.astrephon.specs.Refusals.{Outcome}
 use Rattle.astrephon.specs.Shares.{sharedCall}
@@ -15,21 +16,34 @@ use Rattle.answers.specs.declared.calls.Reply.the-variants.{Told, Unknow
 use Rattle.answers.specs.Frames.{callOf, iOf, jOf, aOf, bOf, end4, Whole, sheet1, sheet2, intoOf}
 use Rattle.answers.specs.Numbers.{slotsIn, slotsOf, withSlots}
 use Rattle.answers.specs.Lines.{line}
-use Rattle.answers.specs.Replies.{ofListed, leaving, listing, sharedOutcome, replyTo, lineOf, lineLeft, reply}
+use Rattle.answers.specs.Replies.{ofListed, ofCarried, leaving, telling, carriedOutcome, listing, sharedOutcome, replyTo, lineOf, lineLeft, reply}
 
 -- what a call of a number leaves is what is replied to it
-pub replied : (xs into : List ℕ) {o : Outcome Reply} {k call : ℕ} → call ≡ k → replyTo k xs into ≡ o → o ≡ replyTo call xs into
+replied : (xs into : List ℕ) {o : Outcome Reply} {k call : ℕ} → call ≡ k → replyTo k xs into ≡ o → o ≡ replyTo call xs into
 replied xs into is to = sym to ∙ ap (λ (n : ℕ). replyTo n xs into) (sym is)
 
 pub replied-told : (xs into : List ℕ) {a b : Answer} {k call : ℕ} → a ≡ b → call ≡ k → replyTo k xs into ≡ leaving (Told b) into
     → leaving (Told a) into ≡ replyTo call xs into
 replied-told xs into e is to = ap (λ (a : Answer). leaving (Told a) into) e ∙ replied xs into is to
 
+pub replied-left : (xs into : List ℕ) {o p : Outcome Answer} {k call : ℕ} → o ≡ p → call ≡ k → replyTo k xs into ≡ telling p
+    → telling o ≡ replyTo call xs into
+replied-left xs into e is to = ap telling e ∙ replied xs into is to
+
 pub replied-unknown : (call : ℕ) (xs into : List ℕ) → (call ≡ 1 → ⊥) → (call ≡ 2 → ⊥) → (call ≡ 3 → ⊥) → (call ≡ 4 → ⊥) → (call ≡ 5 → ⊥)
-    → (call ≡ 10 → ⊥) → leaving Unknown into ≡ replyTo call xs into
+    → (call ≡ 6 → ⊥) → (call ≡ 7 → ⊥) → (call ≡ 8 → ⊥) → (call ≡ 9 → ⊥) → (call ≡ 10 → ⊥) → leaving Unknown into ≡ replyTo call xs into
 unfolding replyTo
-replied-unknown call xs into n1 n2 n3 n4 n5 n10 =
-    rw (ne-eqb call 1 n1, ne-eqb call 2 n2, ne-eqb call 3 n3, ne-eqb call 4 n4, ne-eqb call 5 n5, ne-eqb call 10 n10) refl
+replied-unknown call xs into n1 n2 n3 n4 n5 n6 n7 n8 n9 n10 =
+    rw (ne-eqb call 1 n1, ne-eqb call 2 n2, ne-eqb call 3 n3, ne-eqb call 4 n4, ne-eqb call 5 n5)
+    (rw (ne-eqb call 6 n6, ne-eqb call 7 n7, ne-eqb call 8 n8, ne-eqb call 9 n9, ne-eqb call 10 n10) refl)
+
+-- a call that carries bytes, and was made on what the frame says
+pub carried-left : {o p : Outcome Carried} {answered : Carried} {answer : Answer} {later : List ℕ} → o ≡ p → answered ≡ o .answer → later ≡ o .later
+    → answer ≡ ofCarried answered → leaving answer later ≡ carriedOutcome p
+carried-left made said left told =
+    let first = told ∙ ap ofCarried (said ∙ ap (λ (o : Outcome Carried). o .answer) made) in
+    let second = left ∙ ap (λ (o : Outcome Carried). o .later) made in
+    λ t. leaving (first t) (second t)
 
 -- shared runs: the buffer's slots were taken as the list, and what the call left in it was put back
 module _ (xs into : List ℕ) {sheet sheet' slots : List ℕ} {i j a b n : ℕ}

@@ -47,12 +47,15 @@ end4 xs = blobEnd xs (end3 xs)
 abbrev pub Whole : List ℕ → Type 0
 Whole xs = end4 xs ≡ length xs
 
--- the first blob is sheet 1, the second sheet 2, and the fourth the destination buffer before the call
+-- the first blob is sheet 1, the second sheet 2, the third the source buffer, and the fourth the destination buffer before the call
 abbrev pub sheet1 : List ℕ → List ℕ
 sheet1 xs = blob xs 33
 
 abbrev pub sheet2 : List ℕ → List ℕ
 sheet2 xs = blob xs (end1 xs)
+
+abbrev pub fromOf : List ℕ → List ℕ
+fromOf xs = blob xs (end2 xs)
 
 abbrev pub intoOf : List ℕ → List ℕ
 intoOf xs = blob xs (end3 xs)

@@ -15,14 +15,18 @@ use Rattle.astrephon.specs.declared.Spanned.{Spanned}
 use Rattle.astrephon.specs.declared.Spanned.the-variants as spanned
 use Rattle.astrephon.specs.declared.Listed.{Listed}
 use Rattle.astrephon.specs.declared.Listed.the-variants as listed
+use Rattle.astrephon.specs.declared.Carried.{Carried}
+use Rattle.astrephon.specs.declared.Carried.the-variants as carried
 use Rattle.astrephon.specs.Refusals.{Outcome}
 use Rattle.astrephon.specs.Check.{checkCall}
 use Rattle.astrephon.specs.Maps.{exactCall, nextCall, inverseCall, spanCall}
 use Rattle.astrephon.specs.Shares.{sharedCall}
+use Rattle.astrephon.specs.Carries.{gatheredCall, scatteredCall}
+use Rattle.astrephon.specs.Moves.{movedCall, pairMovedCall}
 use Rattle.answers.specs.declared.lines.Answer.{Answer}
 use Rattle.answers.specs.declared.calls.Reply.{Reply}
 use Rattle.answers.specs.declared.calls.Reply.the-variants.{Told, Unknown}
-use Rattle.answers.specs.Frames.{callOf, iOf, jOf, aOf, bOf, end4, sheet1, sheet2, intoOf}
+use Rattle.answers.specs.Frames.{callOf, iOf, jOf, aOf, bOf, end4, sheet1, sheet2, fromOf, intoOf}
 use Rattle.answers.specs.Numbers.{slotsOf, withSlots}
 use Rattle.answers.specs.Lines.{line}
 
@@ -56,6 +60,11 @@ unfoldable pub ofListed : Listed → Answer
 ofListed (listed.Runs n) = done n 0
 ofListed (listed.Refused r) = refused r
 
+-- a call that carries bytes gives no value
+unfoldable pub ofCarried : Carried → Answer
+ofCarried carried.Done = done 0 0
+ofCarried (carried.Refused r) = refused r
+
 -- the calls' numbers
 abbrev pub CHECK : ℕ
 CHECK = 1
@@ -71,6 +80,18 @@ INVERSE = 4
 
 abbrev pub SPAN : ℕ
 SPAN = 5
+
+abbrev pub GATHER : ℕ
+GATHER = 6
+
+abbrev pub SCATTER : ℕ
+SCATTER = 7
+
+abbrev pub MOVE : ℕ
+MOVE = 8
+
+abbrev pub PAIR-MOVE : ℕ
+PAIR-MOVE = 9
 
 abbrev pub SHARED-RUNS : ℕ
 SHARED-RUNS = 10
@@ -95,6 +116,24 @@ spanAnswer xs = ofSpanned (spanCall (sheet1 xs) (iOf xs) (aOf xs) (bOf xs))
 abbrev pub leaving : {A : Type 0} → A → (later : List ℕ) → Outcome A
 leaving answer later = record { answer = answer; later = later }
 
+-- the calls that carry bytes are made on the destination buffer itself
+abbrev pub carriedOutcome : Outcome Carried → Outcome Answer
+carriedOutcome o = leaving (ofCarried (o .answer)) (o .later)
+
+-- one element's bytes, from a file buffer into a packed one and back
+abbrev pub gatherOutcome : List ℕ → (into : List ℕ) → Outcome Answer
+gatherOutcome xs into = carriedOutcome (gatheredCall (sheet1 xs) (iOf xs) (aOf xs) (bOf xs) (fromOf xs) into)
+
+abbrev pub scatterOutcome : List ℕ → (into : List ℕ) → Outcome Answer
+scatterOutcome xs into = carriedOutcome (scatteredCall (sheet1 xs) (iOf xs) (aOf xs) (bOf xs) (fromOf xs) into)
+
+-- from a tray of sheet 1's layout into one of sheet 2's: all bytes, and those that two elements share
+abbrev pub moveOutcome : List ℕ → (into : List ℕ) → Outcome Answer
+moveOutcome xs into = carriedOutcome (movedCall (sheet1 xs) (sheet2 xs) (aOf xs) (bOf xs) (fromOf xs) into)
+
+abbrev pub pairMoveOutcome : List ℕ → (into : List ℕ) → Outcome Answer
+pairMoveOutcome xs into = carriedOutcome (pairMovedCall (sheet1 xs) (sheet2 xs) (iOf xs) (jOf xs) (aOf xs) (bOf xs) (fromOf xs) into)
+
 -- shared runs: the list is the buffer's whole slots. What the call leaves in them is put back; bytes behind the last whole slot stay
 abbrev pub listing : List ℕ → (slots : List ℕ) → Outcome Listed
 listing xs slots = sharedCall (sheet1 xs) (sheet2 xs) (iOf xs) (jOf xs) (aOf xs) (bOf xs) slots
@@ -113,8 +152,12 @@ replyTo call xs into =
     (cond (eqb call NEXT) (leaving (Told (nextAnswer xs)) into)
     (cond (eqb call INVERSE) (leaving (Told (inverseAnswer xs)) into)
     (cond (eqb call SPAN) (leaving (Told (spanAnswer xs)) into)
+    (cond (eqb call GATHER) (telling (gatherOutcome xs into))
+    (cond (eqb call SCATTER) (telling (scatterOutcome xs into))
+    (cond (eqb call MOVE) (telling (moveOutcome xs into))
+    (cond (eqb call PAIR-MOVE) (telling (pairMoveOutcome xs into))
     (cond (eqb call SHARED-RUNS) (telling (sharedOutcome xs into))
-    (leaving Unknown into))))))
+    (leaving Unknown into))))))))))
 
 -- the line of what is replied and left, and nothing where there is no such call
 unfoldable pub lineOf : Reply → (into : List ℕ) → List ℕ

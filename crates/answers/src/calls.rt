@@ -6,6 +6,7 @@ ghost use Rattle.io.specs.Counts.{Counts};
 ghost use Rattle.answers.specs.Frames.{callOf, Whole, intoOf};
 ghost use Rattle.answers.specs.Lines.{Room};
 ghost use Rattle.answers.specs.Replies.{checkAnswer, exactAnswer, nextAnswer, inverseAnswer, spanAnswer, leaving, sharedOutcome, replyTo, reply};
+use crate::carrying;
 use crate::frames;
 use crate::lines;
 use crate::lines::Answer;
@@ -23,6 +24,14 @@ const NEXT: u8 = 3;
 const INVERSE: u8 = 4;
 
 const SPAN: u8 = 5;
+
+const GATHER: u8 = 6;
+
+const SCATTER: u8 = 7;
+
+const MOVE: u8 = 8;
+
+const PAIR_MOVE: u8 = 9;
 
 const SHARED_RUNS: u8 = 10;
 
@@ -119,6 +128,10 @@ fn reply_to(frame: &[u8], into: &mut [u8]) -> Reply
         NEXT => Reply::Told(next(frame)),
         INVERSE => Reply::Told(inverse(frame)),
         SPAN => Reply::Told(span(frame)),
+        GATHER => Reply::Told(carrying::gather(frame, into)),
+        SCATTER => Reply::Told(carrying::scatter(frame, into)),
+        MOVE => Reply::Told(carrying::move_tray(frame, into)),
+        PAIR_MOVE => Reply::Told(carrying::move_pair(frame, into)),
         SHARED_RUNS => Reply::Told(shared_runs(frame, into)),
         _ => Reply::Unknown,
     }

@@ -5,7 +5,7 @@ ghost use lib.Dec.{eqb};
 ghost use lib.ListN.{length};
 ghost use Rattle.sheets.specs.Bytes.{le32};
 ghost use Rattle.answers.specs.Numbers.{le64};
-ghost use Rattle.answers.specs.Frames.{blobEnd, Whole, end3, end4, intoOf};
+ghost use Rattle.answers.specs.Frames.{blobEnd, Whole, end2, end3, end4, fromOf, intoOf};
 ghost use Rattle.answers.specs.Frames.{blob as Frames·blob, sheet1 as Frames·sheet1, sheet2 as Frames·sheet2};
 use crate::numbers;
 
@@ -51,13 +51,18 @@ fn blob_end(frame: &[u8], at: usize) -> usize
     if size < end { size + 1 } else { end }
 }
 
+// Where the second blob ends, and the third begins.
+fn second_end(frame: &[u8]) -> usize
+    ensures { λ r. ⌜ r ≡ min (end2 (now (frame .entry))) (suc (length (now (frame .entry)))) ⌝ }
+{
+    blob_end(frame, blob_end(frame, BLOBS))
+}
+
 // Where the third blob ends, and the last begins.
 fn third_end(frame: &[u8]) -> usize
     ensures { λ r. ⌜ r ≡ min (end3 (now (frame .entry))) (suc (length (now (frame .entry)))) ⌝ }
 {
-    let end1 = blob_end(frame, BLOBS);
-    let end2 = blob_end(frame, end1);
-    blob_end(frame, end2)
+    blob_end(frame, second_end(frame))
 }
 
 // Whether the four blobs fill the frame: it is neither cut nor too long.
@@ -89,6 +94,14 @@ pub fn sheet2(frame: &[u8]) -> &[u8]
     ensures { λ r. ⌜ now r ≡ Frames·sheet2 (now (frame .entry)) ⌝ }
 {
     blob(frame, blob_end(frame, BLOBS))
+}
+
+// The source buffer.
+pub fn from(frame: &[u8]) -> &[u8]
+    requires { ⌜ Whole (now frame) ⌝ }
+    ensures { λ r. ⌜ now r ≡ fromOf (now (frame .entry)) ⌝ }
+{
+    blob(frame, second_end(frame))
 }
 
 // The destination buffer before the call.

@@ -1,8 +1,9 @@
 // What each kind of answer tells, as the numbers of a line.
 ghost use mathlib.Core.Path.{_≡_};
-ghost use Rattle.answers.specs.Replies.{ofChecked, ofMapped, ofLocated, ofSpanned, ofListed};
+ghost use Rattle.answers.specs.Replies.{ofChecked, ofMapped, ofLocated, ofSpanned, ofListed, ofCarried};
 ghost use Rattle.answers.specs.Replies.{done as Replies·done, refused as Replies·refused};
 use crate::lines::Answer;
+use astrephon::Carried;
 use astrephon::Checked;
 use astrephon::Listed;
 use astrephon::Located;
@@ -80,5 +81,15 @@ pub fn of_listed(listed: Listed) -> Answer
     match listed {
         Listed::Runs(n) => done(n, 0),
         Listed::Refused(refusal) => refused(refusal),
+    }
+}
+
+// A call that carries bytes gives no value.
+pub fn of_carried(carried: Carried) -> Answer
+    ensures { λ r. ⌜ r ≡ ofCarried carried ⌝ }
+{
+    match carried {
+        Carried::Done => done(0, 0),
+        Carried::Refused(refusal) => refused(refusal),
     }
 }

@@ -1,8 +1,8 @@
 -- `reply_to` meets its contract. Assumes nothing.
-use mathlib.Core.Path.{refl, ap, _∙_}
+use mathlib.Core.Path.{refl}
 use native.Mathlib.Omega.{arith}
-use Rattle.answers.specs.Replies.{telling, replyTo}
-use Rattle.answers.proofs.Replies.{replied, replied-told, replied-unknown}
+use Rattle.answers.specs.Replies.{replyTo}
+use Rattle.answers.proofs.Replies.{replied-told, replied-left, replied-unknown}
 use Rattle.answers.proofs.Ends.{first-fits}
 use borrow.Author.Needs.{needs}
 use Rattle.answers.proofs.calls.reply_to.Statement.{statement}
@@ -25,6 +25,18 @@ inverse-requires c κs = search needs
 
 span-requires : tie.Need-span-requires
 span-requires c κs = search needs
+
+gather-requires : tie.Need-gather-requires
+gather-requires c κs = search needs
+
+scatter-requires : tie.Need-scatter-requires
+scatter-requires c κs = search needs
+
+move-tray-requires : tie.Need-move-tray-requires
+move-tray-requires c κs = search needs
+
+move-pair-requires : tie.Need-move-pair-requires
+move-pair-requires c κs = search needs
 
 shared-runs-requires : tie.Need-shared-runs-requires
 shared-runs-requires c κs = search needs
@@ -54,10 +66,42 @@ same-length c = search needs
 
 returns-6 : tie.Need-returns-6
 unfolding replyTo
-returns-6 c = ap telling (c .before .before .shared-runs .ensures) ∙ replied _ _ (c .before .before .before .before .match .keys6) refl
+returns-6 c = replied-left _ _ (c .before .before .gather .ensures) (c .before .before .before .before .match .keys6) refl
+
+same-length-2 : tie.Need-same-length-2
+same-length-2 c = search needs
 
 returns-7 : tie.Need-returns-7
-returns-7 c = let r = c .match .rest in replied-unknown _ _ _ (r .0 .0 .0 .0 .0 .1) (r .0 .0 .0 .0 .1) (r .0 .0 .0 .1) (r .0 .0 .1) (r .0 .1) (r .1)
+unfolding replyTo
+returns-7 c = replied-left _ _ (c .before .before .scatter .ensures) (c .before .before .before .before .match .keys7) refl
+
+same-length-3 : tie.Need-same-length-3
+same-length-3 c = search needs
+
+returns-8 : tie.Need-returns-8
+unfolding replyTo
+returns-8 c = replied-left _ _ (c .before .before .move-tray .ensures) (c .before .before .before .before .match .keys8) refl
+
+same-length-4 : tie.Need-same-length-4
+same-length-4 c = search needs
+
+returns-9 : tie.Need-returns-9
+unfolding replyTo
+returns-9 c = replied-left _ _ (c .before .before .move-pair .ensures) (c .before .before .before .before .match .keys9) refl
+
+same-length-5 : tie.Need-same-length-5
+same-length-5 c = search needs
+
+returns-10 : tie.Need-returns-10
+unfolding replyTo
+returns-10 c = replied-left _ _ (c .before .before .shared-runs .ensures) (c .before .before .before .before .match .keys10) refl
+
+returns-11 : tie.Need-returns-11
+returns-11 c =
+    let late = c .match .rest in
+    let early = late .0 .0 .0 .0 .0 in
+    replied-unknown _ _ _ (early .0 .0 .0 .0 .1) (early .0 .0 .0 .1) (early .0 .0 .1) (early .0 .1) (early .1)
+    (late .0 .0 .0 .0 .1) (late .0 .0 .0 .1) (late .0 .0 .1) (late .0 .1) (late .1)
 
 pub reply-to-spec : {M : Type 1} → statement M
 reply-to-spec =
@@ -69,6 +113,10 @@ reply-to-spec =
     next-requires
     inverse-requires
     span-requires
+    gather-requires
+    scatter-requires
+    move-tray-requires
+    move-pair-requires
     shared-runs-requires
     returns
     returns-2
@@ -77,4 +125,12 @@ reply-to-spec =
     returns-5
     same-length
     returns-6
-    returns-7)
+    same-length-2
+    returns-7
+    same-length-3
+    returns-8
+    same-length-4
+    returns-9
+    same-length-5
+    returns-10
+    returns-11)

@@ -1,0 +1,58 @@
+-- `gather` meets its contract. Assumes nothing.
+use Rattle.astrephon.specs.Carries.{gatheredCall}
+use Rattle.answers.proofs.Replies.{carried-left}
+use borrow.Author.Needs.{needs}
+use Rattle.answers.proofs.carrying.gather.Statement.{statement}
+use Rattle.answers.proofs.carrying.gather.Tie as tie
+
+number-at-requires : tie.Need-number-at-requires
+number-at-requires c κs = search needs
+
+number-at-requires-2 : tie.Need-number-at-requires-2
+number-at-requires-2 c κs = search needs
+
+number-at-requires-3 : tie.Need-number-at-requires-3
+number-at-requires-3 c κs = search needs
+
+sheet1-requires : tie.Need-sheet1-requires
+sheet1-requires c κs = search needs
+
+from-requires : tie.Need-from-requires
+from-requires c κs = search needs
+
+gather-requires : tie.Need-gather-requires
+gather-requires c κs = search needs
+
+of-carried-requires : tie.Need-of-carried-requires
+of-carried-requires c κs = search needs
+
+same-length : tie.Need-same-length
+same-length c = search needs
+
+returns : tie.Need-returns
+returns c =
+    let called = c .before .before .before in
+    let source = called .before .before in
+    let sheet = source .before in
+    let b = sheet .before in
+    let a = b .before in
+    let i = a .before in
+    let start = i .before .before .before in
+    carried-left
+    (λ t. gatheredCall (sheet .sheet1 .ensures t) (i .number-at .ensures t)
+    (a .number-at2 .ensures t) (b .number-at3 .ensures t) (source .from .ensures t) (start .args .into .now))
+    (called .gather .ensures .0) (called .gather .ensures .1) (c .of-carried .ensures)
+
+pub gather-spec : {M : Type 1} → statement M
+gather-spec =
+    tie.close
+    (tie.spec
+    number-at-requires
+    number-at-requires-2
+    number-at-requires-3
+    sheet1-requires
+    from-requires
+    gather-requires
+    of-carried-requires
+    same-length
+    returns)

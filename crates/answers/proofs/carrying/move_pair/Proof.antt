@@ -1,0 +1,68 @@
+-- `move_pair` meets its contract. Assumes nothing.
+use Rattle.astrephon.specs.Moves.{pairMovedCall}
+use Rattle.answers.proofs.Replies.{carried-left}
+use borrow.Author.Needs.{needs}
+use Rattle.answers.proofs.carrying.move_pair.Statement.{statement}
+use Rattle.answers.proofs.carrying.move_pair.Tie as tie
+
+number-at-requires : tie.Need-number-at-requires
+number-at-requires c κs = search needs
+
+number-at-requires-2 : tie.Need-number-at-requires-2
+number-at-requires-2 c κs = search needs
+
+number-at-requires-3 : tie.Need-number-at-requires-3
+number-at-requires-3 c κs = search needs
+
+number-at-requires-4 : tie.Need-number-at-requires-4
+number-at-requires-4 c κs = search needs
+
+sheet1-requires : tie.Need-sheet1-requires
+sheet1-requires c κs = search needs
+
+sheet2-requires : tie.Need-sheet2-requires
+sheet2-requires c κs = search needs
+
+from-requires : tie.Need-from-requires
+from-requires c κs = search needs
+
+move-pair-requires : tie.Need-move-pair-requires
+move-pair-requires c κs = search needs
+
+of-carried-requires : tie.Need-of-carried-requires
+of-carried-requires c κs = search needs
+
+same-length : tie.Need-same-length
+same-length c = search needs
+
+returns : tie.Need-returns
+returns c =
+    let called = c .before .before .before in
+    let source = called .before .before in
+    let two = source .before in
+    let one = two .before in
+    let b = one .before in
+    let a = b .before in
+    let j = a .before in
+    let i = j .before in
+    let start = i .before .before .before in
+    carried-left
+    (λ t. pairMovedCall (one .sheet1 .ensures t) (two .sheet2 .ensures t) (i .number-at .ensures t) (j .number-at2 .ensures t)
+    (a .number-at3 .ensures t) (b .number-at4 .ensures t) (source .from .ensures t) (start .args .into .now))
+    (called .move-pair .ensures .0) (called .move-pair .ensures .1) (c .of-carried .ensures)
+
+pub move-pair-spec : {M : Type 1} → statement M
+move-pair-spec =
+    tie.close
+    (tie.spec
+    number-at-requires
+    number-at-requires-2
+    number-at-requires-3
+    number-at-requires-4
+    sheet1-requires
+    sheet2-requires
+    from-requires
+    move-pair-requires
+    of-carried-requires
+    same-length
+    returns)

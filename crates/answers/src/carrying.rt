@@ -1,0 +1,58 @@
+// The calls that carry bytes, from a frame's source buffer into its destination buffer.
+ghost use mathlib.Core.Path.{_≡_};
+ghost use Rattle.answers.specs.Frames.{Whole};
+ghost use Rattle.answers.specs.Replies.{leaving, gatherOutcome, scatterOutcome, moveOutcome, pairMoveOutcome};
+use crate::frames;
+use crate::lines::Answer;
+use crate::told;
+use astrephon::FileOffset;
+
+pub fn gather(frame: &[u8], into: &mut [u8]) -> Answer
+    requires { ⌜ Whole (now frame) ⌝ }
+    ensures { λ r. ⌜ leaving r (now (into .exit)) ≡ gatherOutcome (now (frame .entry)) (now (into .entry)) ⌝ }
+{
+    let i = frames::number_at(frame, frames::I);
+    let a = FileOffset(frames::number_at(frame, frames::A));
+    let b = FileOffset(frames::number_at(frame, frames::B));
+    let sheet = frames::sheet1(frame);
+    let from = frames::from(frame);
+    told::of_carried(astrephon::gather(sheet, i, a, b, from, into))
+}
+
+pub fn scatter(frame: &[u8], into: &mut [u8]) -> Answer
+    requires { ⌜ Whole (now frame) ⌝ }
+    ensures { λ r. ⌜ leaving r (now (into .exit)) ≡ scatterOutcome (now (frame .entry)) (now (into .entry)) ⌝ }
+{
+    let i = frames::number_at(frame, frames::I);
+    let a = FileOffset(frames::number_at(frame, frames::A));
+    let b = FileOffset(frames::number_at(frame, frames::B));
+    let sheet = frames::sheet1(frame);
+    let from = frames::from(frame);
+    told::of_carried(astrephon::scatter(sheet, i, a, b, from, into))
+}
+
+pub fn move_tray(frame: &[u8], into: &mut [u8]) -> Answer
+    requires { ⌜ Whole (now frame) ⌝ }
+    ensures { λ r. ⌜ leaving r (now (into .exit)) ≡ moveOutcome (now (frame .entry)) (now (into .entry)) ⌝ }
+{
+    let a = FileOffset(frames::number_at(frame, frames::A));
+    let b = FileOffset(frames::number_at(frame, frames::B));
+    let sheet1 = frames::sheet1(frame);
+    let sheet2 = frames::sheet2(frame);
+    let from = frames::from(frame);
+    told::of_carried(astrephon::move_tray(sheet1, sheet2, a, b, from, into))
+}
+
+pub fn move_pair(frame: &[u8], into: &mut [u8]) -> Answer
+    requires { ⌜ Whole (now frame) ⌝ }
+    ensures { λ r. ⌜ leaving r (now (into .exit)) ≡ pairMoveOutcome (now (frame .entry)) (now (into .entry)) ⌝ }
+{
+    let i = frames::number_at(frame, frames::I);
+    let j = frames::number_at(frame, frames::J);
+    let a = FileOffset(frames::number_at(frame, frames::A));
+    let b = FileOffset(frames::number_at(frame, frames::B));
+    let sheet1 = frames::sheet1(frame);
+    let sheet2 = frames::sheet2(frame);
+    let from = frames::from(frame);
+    told::of_carried(astrephon::move_pair(sheet1, sheet2, i, j, a, b, from, into))
+}
