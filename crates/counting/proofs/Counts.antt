@@ -119,3 +119,7 @@ countIn-front p a n =
 pub countIn-past : (p : ℕ → Bool) (a n x : ℕ) → a ≤ x → x < a + n → p x ≡ true → countIn p a (x - a) < countIn p a n
 unfolding countIn
 countIn-past p a n x h k e = count-past (λ y. p (a + y)) (x - a) n (ap p (add-sub-of-le h) ∙ e) (omega arith)
+
+pub countIn-le : (p : ℕ → Bool) (a n : ℕ) → countIn p a n ≤ n
+unfolding countIn
+countIn-le p a n = count-le (λ y. p (a + y)) n

@@ -1,15 +1,19 @@
 -- Which elements have a number. Assumes nothing.
 use mathlib.Core.Path.{_≡_, refl, sym, ap, _∙_}
-use mathlib.Core.Bool.{true, false, true≢false}
-use mathlib.Core.List.{[], _∷_, _++_}
-use Prim.Native.Nat.{ℕ, zero, suc, _+_, _≤_, _<_}
+use mathlib.Core.Bool.{Bool, true, false, true≢false}
+use mathlib.Core.List.{[], _∷_, _++_, map}
+use Prim.Native.Nat.{ℕ, zero, suc, _+_, _-_, _%_, _≤_, _<_}
 use native.Mathlib.Nat.{zero-add}
 use native.Mathlib.Omega.{arith}
 use lib.ListN.{length, take, drop}
 use lib.Seq.{split-at}
+use borrow.Author.Tests.{le-leb}
 use Rattle.counting.specs.Count.{bit}
+use Rattle.counting.specs.Periodic.{owns}
+use Rattle.counting.specs.Gather.{tabulated}
 use Rattle.counting.specs.Elements.{Elements, element, times, firstOf}
 use Rattle.counting.proofs.Cases.{byTest}
+use Rattle.counting.proofs.Gathers.{getD-tabulated}
 
 -- ---- an element that has x is counted, and the first that has it is one
 pub times-some : (L : Elements) (x i : ℕ) → element L i x ≡ true → 1 ≤ times L x
@@ -46,3 +50,13 @@ times-append (p ∷ L) M x = omega (arith, times-append L M x)
 pub times-around : (L : Elements) (x i : ℕ) → i < length L → times L x ≡ times (take i L) x + (bit (element L i x) + times (drop (suc i) L) x)
 unfolding times
 times-around L x i h = ap (λ (K : Elements). times K x) (split-at L i (λ _. false) h) ∙ times-append (take i L) (element L i ∷ drop (suc i) L) x
+
+-- ---- element e of as many as are tabulated
+pub element-tabulated : (f : ℕ → ℕ → Bool) (n e : ℕ) → e < n → element (tabulated 0 n f) e ≡ f e
+element-tabulated f n e h = getD-tabulated 0 n f e _ h ∙ ap f (zero-add e)
+
+-- ---- a pattern repeated from d on: x is in as many elements as its place in the pattern is
+pub times-owns : (L : Elements) (d P x : ℕ) → d ≤ x → times (map (owns d P) L) x ≡ times L ((x - d) % P)
+unfolding times
+times-owns [] d P x h = refl
+times-owns (p ∷ L) d P x h = rw (le-leb d x h, times-owns L d P x h) refl

@@ -1,9 +1,9 @@
 -- Lists made of a window, number by number: all of them, and those that pass. Assumes nothing.
 use mathlib.Core.Path.{_≡_, refl, sym, ap, ap₂, _∙_}
-use mathlib.Core.Bool.{Bool, true}
+use mathlib.Core.Bool.{Bool, true, false}
 use mathlib.Core.List.{List, [], _∷_, _++_, map}
 use Prim.Native.Nat.{ℕ, zero, suc, _+_, _-_, _≤_, _<_}
-use native.Mathlib.Nat.{add-zero, zero-add, suc-add, add-sub-of-le, add-sub-cancel-left}
+use native.Mathlib.Nat.{add-zero, zero-add, suc-add, sub-zero, zero-sub, add-sub-of-le, add-sub-cancel-left}
 use native.Mathlib.Omega.{arith}
 use lib.ListN.{length, getD, take, drop, length-drop}
 use lib.Seq.{ext-getD, getD-at, getD-take, getD-drop, length-take-le}
@@ -102,3 +102,29 @@ getD-gathered p a n f x h l e =
     ∙ gathered-split p a (x - a) (suc k) f
     ∙ rw (add-sub-of-le h) (ap (λ (l : List ℕ). gathered p a (x - a) f ++ l) (gathered-here p x k f e)) in
     rw parts (getD-at (gathered p a (x - a) f) (f x) (gathered p (suc x) k f) 0 (countIn p a (x - a)) (length-gathered p a (x - a) f))
+
+-- ---- what is gathered of an empty window, of one that is selected whole, and of one that starts with a gap
+pub gathered-none : (p : ℕ → Bool) (x n : ℕ) (f : ℕ → ℕ) → n ≡ 0 → gathered p x n f ≡ []
+unfolding gathered
+gathered-none p x n f e = rw e refl
+
+pub gathered-all : (p : ℕ → Bool) (x m : ℕ) (f : ℕ → ℕ) → ((y : ℕ) → y < m → p (x + y) ≡ true) → gathered p x m f ≡ tabulated x m f
+unfolding gathered tabulated
+gathered-all p x zero f h = refl
+gathered-all p x (suc m) f h =
+    rw (ap p (sym (add-zero x)) ∙ h 0 (omega arith))
+    (ap (λ (l : List ℕ). f x ∷ l) (gathered-all p (suc x) m f (λ y l. ap p (let e : suc x + y ≡ x + suc y = omega arith in e) ∙ h (suc y) (omega arith))))
+
+pub gathered-skip : (p : ℕ → Bool) (x d n : ℕ) (f : ℕ → ℕ) → ((y : ℕ) → y < d → p (x + y) ≡ false) → gathered p x n f ≡ gathered p (x + d) (n - d) f
+unfolding gathered
+gathered-skip p x zero n f h = rw (add-zero x, sub-zero n) refl
+gathered-skip p x (suc d) zero f h = rw (zero-sub (suc d)) refl
+gathered-skip p x (suc d) (suc n) f h =
+    rw (ap p (sym (add-zero x)) ∙ h 0 (omega arith))
+    (gathered-skip p (suc x) d n f (λ y l. ap p (let e : suc x + y ≡ x + suc y = omega arith in e) ∙ h (suc y) (omega arith))
+    ∙ ap₂ (λ (z m : ℕ). gathered p z m f) (let e : suc x + d ≡ x + suc d = omega arith in e) (let e : n - d ≡ suc n - suc d = omega arith in e))
+
+pub countIn-skip : (p : ℕ → Bool) (x d n : ℕ) → ((y : ℕ) → y < d → p (x + y) ≡ false) → countIn p x n ≡ countIn p (x + d) (n - d)
+countIn-skip p x d n h =
+    let f : ℕ → ℕ = λ _. 0 in
+    sym (length-gathered p x n f) ∙ ap length (gathered-skip p x d n f h) ∙ length-gathered p (x + d) (n - d) f

@@ -3,7 +3,7 @@ use mathlib.Core.Path.{_≡_, refl, sym, ap, ap₂, _∙_}
 use mathlib.Core.Bool.{Bool, false, _&&_, not, cond}
 use mathlib.Core.Logic.{⊎-elim}
 use Prim.Native.Nat.{ℕ, zero, suc, _+_, _-_, _*_, _/_, _%_, _≤_, _<_}
-use native.Mathlib.Nat.{zero-add, zero-mul, suc-mul, suc-add, div-add-mod', mod-lt, add-sub-cancel-left, add-mod-right}
+use native.Mathlib.Nat.{zero-add, zero-mul, suc-mul, suc-add, div-add-mod', mod-lt, mod-eq-of-lt, add-sub-cancel-left, add-mod-right}
 use native.Mathlib.Omega.{arith}
 use lib.Arith.{digits-mod}
 use lib.Dec.{ltb}
@@ -70,6 +70,11 @@ owns-none d P q x h = rw (lt-leb d x h) refl
 -- from its start on it is `picks`, over and over
 pub owns-at : (d P : ℕ) (q : ℕ → Bool) (y : ℕ) → owns d P q (d + y) ≡ q (y % P)
 owns-at d P q y = rw (le-leb d (d + y) (omega arith), add-sub-cancel-left d y) refl
+
+-- a period from its start on has what is picked of it
+pub period-count : (d P : ℕ) (q : ℕ → Bool) → countIn (owns d P q) d P ≡ countBelow q P
+unfolding countIn
+period-count d P q = count-ext _ _ P (λ y l. owns-at d P q y ∙ ap q (mod-eq-of-lt l))
 
 -- THE RANK in a periodic selection: whole periods, and the rank in the last
 pub rank-owns : (d P : ℕ) (q : ℕ → Bool) (x : ℕ) → 0 < P → d ≤ x → countBelow (owns d P q) x ≡ (x - d) / P * countBelow q P + countBelow q ((x - d) % P)

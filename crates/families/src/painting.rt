@@ -5,7 +5,7 @@ ghost use Prim.Native.Nat.{_-_, _<_};
 ghost use lib.ListN.{length, replicate};
 ghost use Rattle.counting.specs.Gather.{tabulated};
 ghost use Rattle.families.specs.Forest.{inner, WF};
-ghost use Rattle.families.specs.Decoded.{segmentsOf, FitsIn, familyAt, forestAt, selections, Layout·ok};
+ghost use Rattle.families.specs.Decoded.{segmentsOf, FitsIn, familyAt, rowOf, forestAt, selections, Layout·ok};
 ghost use Rattle.families.specs.Owners.{mark, painted, owner};
 use crate::Family;
 use crate::Layout;
@@ -75,32 +75,19 @@ pub fn paint_family(numbers: &[u32], f: Family, first: usize, levels: u32, table
     }
 }
 
-// Sets every place to 0.
-pub fn clear(table: &mut [u8])
-    ensures { λ _. ⌜ now (table .exit) ≡ replicate (length (now (table .entry))) 0 ⌝ }
-{
-    let mut i: usize = 0;
-    while i < table.len() {
-        table[i] = 0;
-        i += 1;
-    }
-}
-
-// Paints the owner of every offset that the table has room for.
-pub fn owners(layout: Layout, levels: u32, table: &mut [u8])
-    requires { ⌜ 0 < length (now table) ⌝ ∗ ⌜ Layout·ok levels (length (now table) - 1) layout ⌝ }
+// Paints the owner of every offset that a table of zeros has room for. The layout's families stand in the row.
+pub fn owners(numbers: &[u32], layout: Layout, levels: u32, table: &mut [u8])
+    requires { ⌜ now numbers ≡ rowOf (layout .family) ⌝ ∗ ⌜ now table ≡ replicate (length (now table)) 0 ⌝ ∗ ⌜ 0 < length (now table) ⌝
+        ∗ ⌜ Layout·ok levels (length (now table) - 1) layout ⌝ }
     ensures { λ _. ⌜ now (table .exit) ≡ tabulated 0 (length (now (table .entry))) (owner (selections levels layout)) ⌝ }
 {
-    let mut numbers = [0u32; 1536];
-    row::lay_out(layout, &mut numbers);
-    clear(table);
     let n = layout.elements;
     let mut e: usize = 0;
     while e < n {
         let element = layout.element[e];
         let first = element.first;
         let tops = element.tops;
-        paint(&numbers, first, tops, levels, table, e as u8 + 1);
+        paint(numbers, first, tops, levels, table, e as u8 + 1);
         e += 1;
     }
 }

@@ -15,6 +15,7 @@ use Rattle.sheets.specs.Bytes.{le16, le32, two, four}
 use Rattle.sheets.specs.Records.{lengthOf, familyRecord, fault}
 use Rattle.sheets.specs.Sheet.{top, within, beside, siblingsFrom, forestFrom, elementsFrom, endOfRecords, elementsOf}
 use Rattle.sheets.specs.Encode.{familyBytes, forestBytes, elementBytes, elementsBytes, encode, Rules, ElementRules}
+use Rattle.sheets.proofs.Descent.{none-read}
 use Rattle.sheets.proofs.Faults.{Headed, FamilyTaken, taken-family, taken-element, taken-header}
 use Rattle.sheets.proofs.Numbers.{two-read, four-read}
 
@@ -134,14 +135,9 @@ module _ (xs : List ℕ) (levels : ℕ) (m : Limits) (at l r s n : ℕ) (kids re
   node-got kids-got rest-got =
       sibling-got (forestFrom xs levels) xs (suc levels) m (width rest) at (familyOf l r s n kids) kids rest (there .1) (taken-family (suc levels) m xs at taken) kids-got rest-got
 
-none-got : (xs : List ℕ) (levels : ℕ) (m : Limits) (at : ℕ) → forestFrom xs levels m 0 at ≡ got nil
-unfolding forestFrom siblingsFrom
-none-got xs zero m at = refl
-none-got xs (suc levels) m at = refl
-
 pub forest-got : (xs : List ℕ) (levels : ℕ) (m : Limits) (at : ℕ) (F : Forest) (tail : List ℕ) → Ready xs levels m at F tail → forestFrom xs levels m (width F) at ≡ got F
 unfolding width
-forest-got xs levels m at nil tail R = none-got xs levels m at
+forest-got xs levels m at nil tail R = none-read xs levels m at
 forest-got xs zero m at (node l r s n kids rest) tail R = absurd (no-level l r s n kids rest (R .deep))
 forest-got xs (suc levels) m at (node l r s n kids rest) tail R =
     node-got xs levels m at l r s n kids rest tail R

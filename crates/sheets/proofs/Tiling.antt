@@ -7,13 +7,13 @@ use Prim.Native.Nat.{ℕ, zero, suc, _+_, _-_, _%_, _≤_, _<_}
 use native.Mathlib.Nat.{mod-lt}
 use native.Mathlib.Omega.{arith}
 use lib.ListN.{length}
-use borrow.Author.Tests.{le-leb}
 use Rattle.counting.specs.Count.{countBelow}
 use Rattle.counting.specs.Periodic.{owns}
 use Rattle.counting.specs.Elements.{times}
 use Rattle.counting.proofs.Cases.{lt-or-le}
 use Rattle.counting.proofs.Counts.{count-zero, count-suc, count-mono}
 use Rattle.counting.proofs.Periods.{owns-none}
+use Rattle.counting.proofs.Elements.{times-owns}
 use Rattle.families.specs.Forest.{Forest, nil, node, has, WF}
 use Rattle.families.specs.Flat.{width, depth, All}
 use Rattle.families.proofs.Forests.{end-le, size-at, count-most, size-some}
@@ -64,13 +64,7 @@ pub uneven-below : (bound : ℕ) (Fs : List Forest) → All (WF 0 bound) Fs → 
 uneven-below bound Fs a x h l =
     ⊎-elim (λ g. absurd (omega (arith, together-all bound Fs a x g, together-even Fs x h))) (λ g. g) (lt-or-le bound x)
 
--- ---- a pattern repeated: in the file an offset is in as many elements as its place in the pattern is
-times-file : (L : List (ℕ → Bool)) (d P x : ℕ) → d ≤ x → times (map (owns d P) L) x ≡ times L ((x - d) % P)
-unfolding times
-times-file [] d P x h = refl
-times-file (p ∷ L) d P x h = rw (le-leb d x h, times-file L d P x h) refl
-
--- .. and before the displacement in none
+-- ---- before the displacement an offset is in no element
 pub file-none : (L : List (ℕ → Bool)) (d P x : ℕ) → x < d → times (map (owns d P) L) x ≡ 0
 unfolding times
 file-none [] d P x h = refl
@@ -89,7 +83,7 @@ module _ (Fs : List Forest) (tiled : Tiled Fs) where
 
   -- EVERY FILE OFFSET from the displacement on is in exactly one element
   pub file-once : 1 ≤ sizes Fs → (d x : ℕ) → d ≤ x → times (map (owns d (sizes Fs)) (map has Fs)) x ≡ 1
-  file-once some d x h = times-file (map has Fs) d (sizes Fs) x h ∙ tiled ((x - d) % sizes Fs) (mod-lt (x - d) some)
+  file-once some d x h = times-owns (map has Fs) d (sizes Fs) x h ∙ tiled ((x - d) % sizes Fs) (mod-lt (x - d) some)
 
 -- ---- an element with families selects something
 pub size-least : (bound : ℕ) (Fs : List Forest) → All (Element·ok bound) Fs → 1 ≤ length Fs → 1 ≤ sizes Fs

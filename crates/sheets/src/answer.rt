@@ -52,7 +52,7 @@ pub fn judge(layout: Layout, end: u32, numbers: &[u32]) -> Reading
     ensures { λ r. ⌜ r ≡ judgedLayout layout ⌝ }
 {
     let size = pattern::pattern_size(layout, numbers);
-    let uneven = pattern::judge_pattern(layout, size, end);
+    let uneven = pattern::judge_pattern(layout, size, end, numbers);
     let place = uneven.place;
     let flag = uneven.flag;
     if place < size {

@@ -1,7 +1,7 @@
 // The pattern that the elements share: its size, and number 11, the first offset that is not in exactly one element.
 ghost use mathlib.Core.Path.{_≡_};
 ghost use Prim.Native.Nat.{_-_, _≤_, _<_};
-ghost use lib.ListN.{length};
+ghost use lib.ListN.{length, replicate};
 ghost use Rattle.families.specs.Decoded.{rowOf, treesOf, Layout·ok};
 ghost use Rattle.sheets.specs.Pattern.{sizes};
 ghost use Rattle.sheets.specs.Uneven.{scanned, unevenOf};
@@ -53,12 +53,13 @@ pub fn scan(table: &[u8], size: u32) -> u32
     size
 }
 
-// The first uneven offset of a pattern, by a table of owners with a place for each offset that an element can have.
-pub fn first_uneven(layout: Layout, size: u32, table: &mut [u8]) -> Uneven
-    requires { ⌜ 0 < length (now table) ⌝ ∗ ⌜ Layout·ok 4 (length (now table) - 1) layout ⌝ ∗ ⌜ size ≡ sizes (treesOf 4 layout) ⌝ }
+// The first uneven offset of a pattern, by a table of zeros with a place for each offset that an element can have, for their owners.
+pub fn first_uneven(layout: Layout, size: u32, numbers: &[u32], table: &mut [u8]) -> Uneven
+    requires { ⌜ now numbers ≡ rowOf (layout .family) ⌝ ∗ ⌜ now table ≡ replicate (length (now table)) 0 ⌝ ∗ ⌜ 0 < length (now table) ⌝
+        ∗ ⌜ Layout·ok 4 (length (now table) - 1) layout ⌝ ∗ ⌜ size ≡ sizes (treesOf 4 layout) ⌝ }
     ensures { λ r. ⌜ r ≡ unevenOf (treesOf 4 layout) ⌝ }
 {
-    families::owners(layout, 4, table);
+    families::owners(numbers, layout, 4, table);
     let place = scan(table, size);
     let mut flag = crate::NO_FLAG;
     if place < size {
@@ -71,14 +72,14 @@ pub fn first_uneven(layout: Layout, size: u32, table: &mut [u8]) -> Uneven
 }
 
 // The first uneven offset of a pattern whose elements end at `end`. A small table is used where it does, so that no large one is cleared.
-pub fn judge_pattern(layout: Layout, size: u32, end: u32) -> Uneven
-    requires { ⌜ 1 ≤ end ⌝ ∗ ⌜ end ≤ 65536 ⌝ ∗ ⌜ Layout·ok 4 (end - 1) layout ⌝ ∗ ⌜ size ≡ sizes (treesOf 4 layout) ⌝ }
+pub fn judge_pattern(layout: Layout, size: u32, end: u32, numbers: &[u32]) -> Uneven
+    requires { ⌜ now numbers ≡ rowOf (layout .family) ⌝ ∗ ⌜ 1 ≤ end ⌝ ∗ ⌜ end ≤ 65536 ⌝ ∗ ⌜ Layout·ok 4 (end - 1) layout ⌝ ∗ ⌜ size ≡ sizes (treesOf 4 layout) ⌝ }
     ensures { λ r. ⌜ r ≡ unevenOf (treesOf 4 layout) ⌝ }
 {
     if end <= 2048 {
         let mut small = [0u8; 2048];
-        return first_uneven(layout, size, &mut small);
+        return first_uneven(layout, size, numbers, &mut small);
     }
     let mut large = [0u8; 65536];
-    first_uneven(layout, size, &mut large)
+    first_uneven(layout, size, numbers, &mut large)
 }

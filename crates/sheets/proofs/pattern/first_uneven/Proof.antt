@@ -16,10 +16,10 @@ Scanned = lts.After-scan (owners-reads.Asked, owners-reads.Learnt, scan-reads.As
 
 -- the table that the scan went over
 abbrev table : Scanned → List ℕ
-table c = c .before .before .before .before .owners .last .1 .1 .0
+table c = c .before .before .before .before .owners .last .1 .1 .1 .0
 
-at-scan : (c : Scanned) → let start = c .before .before .before .before .before .before .before in Searched (treesOf 4 (start .args .layout)) (table c) (start .args .size) (c .scan .result)
-at-scan c = searched (c .before .before .before .before .before .before .before .pre) (c .before .before .before .before .owners .ensures) (c .scan .ensures)
+at-scan : (c : Scanned) → let start = c .before .before .before .before .before .before .before .before in Searched (treesOf 4 (start .args .layout)) (table c) (start .args .size) (c .scan .result)
+at-scan c = searched (c .before .before .before .before .before .before .before .before .pre .1 .1) (c .before .before .before .before .owners .ensures) (c .scan .ensures)
 
 owners-requires : tie.Need-owners-requires
 owners-requires c κs = search needs
