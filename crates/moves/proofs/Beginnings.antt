@@ -11,12 +11,12 @@ use borrow.Author.Tests.{le-leb, lt-leb}
 use Rattle.counting.specs.Count.{countBelow}
 use Rattle.counting.proofs.Cases.{byTest, lt-or-le}
 use Rattle.counting.proofs.Counts.{count-le, count-mono, count-past}
+use Rattle.counting.proofs.Gathers.{countIn-skip}
 use Rattle.maps.specs.declared.Selection.{Selection}
 use Rattle.maps.specs.Selected.{Byte}
 use Rattle.moves.specs.declared.walks.Walk.{Walk}
 use Rattle.moves.specs.Strides.{onwards, furthers}
 use Rattle.moves.specs.Walks.{Begun}
-use Rattle.moves.proofs.Passing.{countIn-skip}
 
 -- ---- the two ways of `around`
 pub around-inside : (u period : ℕ) → u < period → u ≡ u % period

@@ -7,15 +7,14 @@ use native.Mathlib.Omega.{arith}
 use lib.ListN.{length, replicate, length-replicate}
 use lib.Seq.{take-all}
 use Rattle.counting.specs.Gather.{inFile, gathered, scattered}
-use Rattle.counting.proofs.Gathers.{tabulated-ext, tabulated-whole}
+use Rattle.counting.proofs.Counts.{countIn-le}
+use Rattle.counting.proofs.Gathers.{tabulated-ext, tabulated-whole, gathered-none}
 use Rattle.maps.specs.declared.Selection.{Selection}
 use Rattle.maps.specs.declared.Window.{Window}
 use Rattle.maps.specs.Selected.{belongs}
 use Rattle.runs.specs.Walking.{Side·ok, Window·ok}
 use Rattle.moves.specs.Strides.{Blank}
 use Rattle.moves.specs.Walks.{Buffers, Carries}
-use Rattle.moves.proofs.Passing.{gathered-none}
-use Rattle.moves.proofs.Striding.{countIn-le}
 
 -- ---- tables of zeros, of n places each
 pub tables-ask : {s : Selection} {row : List ℕ} {window : Window} {n m k : ℕ} → Side·ok s row n (window .start .0) → Window·ok window

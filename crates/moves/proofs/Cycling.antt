@@ -4,17 +4,17 @@ use mathlib.Core.Bool.{Bool, true, false}
 use mathlib.Core.List.{List}
 use mathlib.Core.Logic.{⊎-elim}
 use Prim.Native.Nat.{ℕ, zero, suc, _+_, _-_, _%_, _≤_, _<_}
-use native.Mathlib.Nat.{add-sub-of-le, mod-lt, mod-eq-of-lt}
+use native.Mathlib.Nat.{add-sub-of-le, mod-lt}
 use native.Mathlib.Omega.{arith}
 use lib.ListN.{length, getD}
 use borrow.Author.Tests.{eq-eqb, ne-eqb}
-use Rattle.counting.specs.Count.{bit, countBelow, countIn}
+use Rattle.counting.specs.Count.{bit}
 use Rattle.counting.specs.Periodic.{owns}
 use Rattle.counting.specs.Gather.{tabulated}
 use Rattle.counting.specs.Elements.{element, times, Partition}
 use Rattle.counting.proofs.Cases.{same-or-not}
-use Rattle.counting.proofs.Counts.{count-ext}
-use Rattle.counting.proofs.Gathers.{length-tabulated, getD-tabulated}
+use Rattle.counting.proofs.Gathers.{length-tabulated}
+use Rattle.counting.proofs.Elements.{element-tabulated}
 use Rattle.counting.proofs.Periods.{owns-at}
 use Rattle.moves.specs.Tables.{heldBy, tabled, Owned}
 
@@ -32,11 +32,6 @@ times-one a (suc n) f x k h l t others = ⊎-elim
     (λ d. omega (arith, ap bit (others a d), times-one (suc a) n f x k (omega arith) (omega arith) t others))
     (same-or-not a k)
 
--- a period has what is picked of it
-pub period-count : (d P : ℕ) (q : ℕ → Bool) → countIn (owns d P q) d P ≡ countBelow q P
-unfolding countIn
-period-count d P q = count-ext _ _ P (λ y l. owns-at d P q y ∙ ap q (mod-eq-of-lt l))
-
 module _ (count from period : ℕ) (owners : List ℕ) where
   pub length-tabled : length (tabled count from period owners) ≡ count
   unfolding tabled
@@ -46,8 +41,8 @@ module _ (count from period : ℕ) (owners : List ℕ) where
   pub element-tabled : (o : ℕ) → 1 ≤ o → o ≤ count → element (tabled count from period owners) (o - 1) ≡ owns from period (heldBy owners o)
   unfolding tabled
   element-tabled o some most =
-      getD-tabulated 0 count (λ e. owns from period (heldBy owners (suc e))) (o - 1) (λ _. false) (omega arith)
-      ∙ ap (λ (i : ℕ). owns from period (heldBy owners i)) (let z : suc (0 + (o - 1)) ≡ o = omega arith in z)
+      element-tabulated (λ e. owns from period (heldBy owners (suc e))) count (o - 1) (omega arith)
+      ∙ ap (λ (i : ℕ). owns from period (heldBy owners i)) (let z : suc (o - 1) ≡ o = omega arith in z)
 
   -- from the layout's start on owner o has the numbers of its places
   owner-at : (o x : ℕ) → from ≤ x → owns from period (heldBy owners o) x ≡ heldBy owners o ((x - from) % period)

@@ -22,7 +22,7 @@ use Rattle.moves.specs.Tables.{heldBy, Nexts, AllFilled}
 use Rattle.moves.proofs.Beginnings.{none-between}
 
 -- what lies ahead of x in p lies ahead of u in g, where the two agree from there on
-ahead-shifted : {p g : ℕ → Bool} {x u run far : ℕ} → ((y : ℕ) → p (x + y) ≡ g (u + y)) → Ahead g u run far → Ahead p x run far
+pub ahead-shifted : {p g : ℕ → Bool} {x u run far : ℕ} → ((y : ℕ) → p (x + y) ≡ g (u + y)) → Ahead g u run far → Ahead p x run far
 ahead-shifted {p} {g} {x} {u} {run} {far} same A = record {
   some = A .some;
   within = A .within;

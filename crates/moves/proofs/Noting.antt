@@ -12,31 +12,32 @@ use Rattle.families.specs.Decoded.{rowOf}
 use Rattle.maps.specs.declared.Window.{Window}
 use Rattle.maps.specs.Selected.{elementsOf, Pattern·ok}
 use Rattle.moves.specs.declared.parts.Chosen.{Chosen}
-use Rattle.moves.specs.Tables.{FitsAll, RoomFor, Tables, Ranked, Counted·ok}
-use Rattle.moves.specs.Parts.{bytesOf, cycleOf, SharesOf, Sources, Targets, movedWhere, Chosen·ok, Lengths, Trays·ok, Starts, Laid, Rooms}
-use Rattle.moves.proofs.Layouts.{elements-length, elements-share, tables-strides, tables-kept}
+use Rattle.moves.specs.Strides.{Filled}
+use Rattle.moves.specs.Tables.{heldBy, FitsAll, RoomFor, Tables, Ranked, Counted·ok}
+use Rattle.moves.specs.Parts.{bytesOf, cycleOf, SharesOf, Sources, Targets, movedWhere, everyPair, onePair, Chosen·ok, Lengths, Trays·ok, Starts, Laid, Rooms}
+use Rattle.moves.proofs.Layouts.{elements-length, elements-share, tables-strides, tables-ahead}
 use Rattle.moves.proofs.Choices.{length-where, where-all, where-pair}
 
 -- ---- what is written down of a layout
 module _ {t : Layout} {size : ℕ} {w : Window} (S : Starts t size w) {owners runs hops : List ℕ} (T : Tables t size owners runs hops) where
   -- every place has an owner, so some table is filled
-  runs-held : size ≤ length runs
-  runs-held =
+  filled : Filled (heldBy owners 1) size runs hops
+  filled =
       let first = S .pattern .least in
-      let some : 0 < t .elements = omega (arith, T .owned .some 0 first, T .owned .most 0 first) in
-      T .each 0 some .runs-held
+      T .each 0 (omega (arith, T .owned .some 0 first, T .owned .most 0 first))
 
   pub sources-noted : {ranks shares : List ℕ} → Ranked owners size ranks
       → SharesOf (elementsOf t size) (t .displacement) size (w .start .0) (bytesOf w) shares
-      → Sources (cycleOf t size) (w .start .0) (bytesOf w) owners runs ranks shares
+      → Sources (cycleOf t size) (w .start .0) (bytesOf w) owners runs hops ranks shares
   sources-noted R H = record {
     owned = T .owned;
     some = S .pattern .least;
     short = omega (arith, S .pattern .most);
     after = S .after;
     near = omega (arith, S .window .ordered, S .window .near);
-    keeps-held = runs-held;
-    kept = tables-kept t size T;
+    keeps-held = filled .runs-held;
+    skips-held = filled .hops-held;
+    ahead = tables-ahead t size T;
     ranked = R;
     shared = rw (T .is) H;
   }
@@ -63,16 +64,6 @@ module _ {t : Layout} {size : ℕ} {w : Window} (S : Starts t size w) {owners ru
   }
 
 -- ---- room for tables
--- a table of the same length has it too
-pub room-kept : {t : Layout} {size : ℕ} {owners runs hops : List ℕ} (hops′ : List ℕ) → length hops′ ≡ length hops
-    → RoomFor t size owners runs hops → RoomFor t size owners runs hops′
-room-kept hops′ same R = record {
-  some = R .some;
-  ruled = R .ruled;
-  held = R .held;
-  room = record { runs-held = R .room .runs-held; hops-held = omega (arith, R .room .hops-held); short = R .room .short };
-}
-
 pub fits-always : {t : Layout} {size : ℕ} → Pattern·ok t size → FitsAll t size 65536
 fits-always P = record { ruled = P .ok; held = P .most }
 
@@ -80,6 +71,7 @@ room-for : {t : Layout} {size n : ℕ} → 1 ≤ n → n ≤ 2 ^ 16 → FitsAll 
 room-for {n = n} some small F =
     let long : length (replicate {A = ℕ} n 0) ≡ n = length-replicate {A = ℕ} n 0 in
     record {
+      zeros = rw long refl;
       some = omega (arith, long);
       ruled = rw long (F .ruled);
       held = omega (arith, long, F .held);
@@ -105,7 +97,7 @@ module _ {t1 t2 : Layout} {size1 size2 : ℕ} {w : Window} (S1 : Starts t1 size1
       → (row1 row2 : List ℕ) → row1 ≡ rowOf (t1 .family) → row2 ≡ rowOf (t2 .family)
       → (n : ℕ) → 1 ≤ n → n ≤ 2 ^ 16 → FitsAll t1 size1 n → FitsAll t2 size2 n → let zeros = replicate {A = ℕ} n 0 in
       Laid t1 size1 w row1 × (Laid t2 size2 w row2 × (Chosen·ok c (t1 .elements) (t2 .elements)
-      × (Trays·ok w one two × Rooms t1 size1 t2 size2 zeros zeros zeros zeros zeros zeros)))
+      × (Trays·ok w one two × Rooms t1 size1 t2 size2 zeros zeros zeros zeros zeros zeros zeros)))
   moves-ask C long some row1 row2 laid1 laid2 n least small fits1 fits2 =
       let held : n ≤ length (replicate {A = ℕ} n 0) = omega (arith, length-replicate {A = ℕ} n 0) in (
         record { starts = S1; laid = laid1 },
@@ -130,16 +122,19 @@ module _ {t1 t2 : Layout} {size1 size2 : ℕ} {w : Window} (S1 : Starts t1 size1
         sym (take-all 0 u (omega (arith, long))) ∙ take-all 0 v none
 
     -- what `move_chosen` makes of the tray, where all is chosen, and one pair
-    module _ (v : List ℕ) where
-      pub moved-whole : v ≡ movedWhere L M a (bytesOf w) t (record { only = 0; first = 0; last = t2 .elements }) u → v ≡ moved L M a (bytesOf w) t
-      moved-whole e =
+    module _ (v : List ℕ) (c : Chosen) (e : v ≡ movedWhere L M a (bytesOf w) t c u) where
+      pub moved-whole : c ≡ everyPair (t2 .elements) → v ≡ moved L M a (bytesOf w) t
+      moved-whole all =
           e
-          ∙ ap (λ (k : ℕ). movedWhere L M a (bytesOf w) t (record { only = 0; first = 0; last = k }) u) (sym (elements-length t2 size2))
+          ∙ ap (λ (b : Chosen). movedWhere L M a (bytesOf w) t b u) (all ∙ ap everyPair (sym (elements-length t2 size2)))
           ∙ where-all L M a (bytesOf w) shared t u
 
-      pub moved-pair : (i j : ℕ) → v ≡ movedWhere L M a (bytesOf w) t (record { only = i + 1; first = j; last = j + 1 }) u
-          → v ≡ pairMoved L M a (bytesOf w) t i j u
-      moved-pair i j e = e ∙ where-pair L M a (bytesOf w) shared t u i j
+      pub moved-pair : (i j : ℕ) → c ≡ onePair i j → v ≡ pairMoved L M a (bytesOf w) t i j u
+      moved-pair i j one = e ∙ ap (λ (b : Chosen). movedWhere L M a (bytesOf w) t b u) one ∙ where-pair L M a (bytesOf w) shared t u i j
 
-pub pair-chosen : (i j one two : ℕ) → i < one → j < two → Chosen·ok (record { only = i + 1; first = j; last = j + 1 }) one two
-pair-chosen i j one two h k = record { only = omega arith; ordered = omega arith; most = omega arith }
+-- both are choices that the code takes
+pub every-chosen : (c : Chosen) (one two : ℕ) → c ≡ everyPair two → Chosen·ok c one two
+every-chosen c one two is = rw is (record { only = omega arith; ordered = omega arith; most = omega arith })
+
+pub pair-chosen : (c : Chosen) (i j one two : ℕ) → c ≡ onePair i j → i < one → j < two → Chosen·ok c one two
+pair-chosen c i j one two is h k = rw is (record { only = omega arith; ordered = omega arith; most = omega arith })

@@ -14,7 +14,7 @@ use Rattle.counting.specs.Gather.{tabulated}
 use Rattle.counting.specs.Elements.{Elements, element, firstOf}
 use Rattle.counting.proofs.Cases.{byTest, lt-or-le}
 use Rattle.counting.proofs.Gathers.{length-tabulated, getD-tabulated, tabulated-ext}
-use Rattle.counting.proofs.Elements.{first-lt, first-has}
+use Rattle.counting.proofs.Elements.{first-lt, first-has, element-tabulated}
 use Rattle.families.specs.declared.Layout.{Layout}
 use Rattle.families.specs.Forest.{has}
 use Rattle.families.specs.Decoded.{treeOf, selections}
@@ -31,7 +31,7 @@ module _ (t : Layout) where
 
   selections-at : (e : ℕ) → e < t .elements → element (selections 4 t) e ≡ has (treeOf 4 t e)
   unfolding selections
-  selections-at e h = getD-tabulated 0 (t .elements) (λ i. has (treeOf 4 t i)) e (λ _. false) h ∙ rw zero-add refl
+  selections-at e h = element-tabulated (λ i. has (treeOf 4 t i)) (t .elements) e h
 
 module _ {t : Layout} {size : ℕ} (P : Pattern·ok t size) {n : ℕ} (room : size ≤ n)
     (owners : List ℕ) (is : owners ≡ tabulated 0 n (owner (selections 4 t))) where

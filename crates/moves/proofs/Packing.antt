@@ -9,12 +9,12 @@ use lib.Seq.{take-all, paste, take-paste, length-paste}
 use Rattle.counting.specs.Count.{countIn}
 use Rattle.counting.specs.Gather.{inFile, gathered, tabulated}
 use Rattle.counting.proofs.Counts.{countIn-none}
-use Rattle.counting.proofs.Gathers.{tabulated-part}
+use Rattle.counting.proofs.Gathers.{tabulated-part, gathered-none, gathered-skip}
 use Rattle.maps.specs.declared.Selection.{Selection}
 use Rattle.moves.specs.declared.walks.Walk.{Walk}
 use Rattle.moves.specs.Strides.{Strides, onwards}
 use Rattle.moves.specs.Walks.{Stands, Begun}
-use Rattle.moves.proofs.Passing.{gathered-none, gathered-skip, Passes, gathered-pass}
+use Rattle.moves.proofs.Passing.{Passes, gathered-pass}
 use Rattle.moves.proofs.Striding.{step-there, step-left, stepped, pass-fits, pass-stands, step-passes, step-fits}
 
 -- the bytes f of p's numbers are packed up to where the walk stands

@@ -21,7 +21,8 @@ use Rattle.moves.specs.declared.shares.Share.{Share}
 use Rattle.moves.specs.Strides.{Strides}
 use Rattle.moves.specs.Walks.{Carries}
 use Rattle.moves.specs.Parts.{bytesOf, shareAt, ShareOf, takes, renewed, movedWhere, Targets, Trays·ok}
-use Rattle.moves.proofs.Layouts.{elements-length, elements-share, selection-belongs, selection-from, selection-there}
+use Rattle.moves.proofs.Layouts.{elements-length, elements-share, selection-belongs, selection-from}
+use Rattle.moves.proofs.Choosing.{chosen-ok}
 use Rattle.moves.proofs.Choices.{length-where, where-none, where-more}
 
 -- ---- the loop
@@ -107,7 +108,7 @@ module _ {t : Layout} {size : ℕ} {w : Window} {row runs hops shares : List ℕ
         pub parting-asks : {one two : ℕ} → Trays·ok w one two → Carries s row w one (length (take k (drop at u))) × Strides s (belongs s row) runs hops
         parting-asks O = (
           record {
-            ok = selection-there t size row (T .laid) j parting-element s chosen (T .pattern);
+            ok = chosen-ok (T .pattern) (T .laid) parting-element chosen;
             after = omega (arith, selection-from t size row (T .laid) j parting-element s chosen, T .after);
             some = O .some;
             near = T .window .near;

@@ -10,34 +10,8 @@ use lib.ListN.{length, length-append}
 use Rattle.counting.specs.Count.{countIn}
 use Rattle.counting.specs.Gather.{tabulated, gathered}
 use Rattle.counting.proofs.Cases.{lt-or-le}
-use Rattle.counting.proofs.Gathers.{length-tabulated, length-gathered, gathered-split}
+use Rattle.counting.proofs.Gathers.{length-tabulated, length-gathered, gathered-split, gathered-none, gathered-all, gathered-skip}
 use Rattle.moves.specs.Strides.{Ahead}
-
--- ---- what is gathered of an empty window, of one that is selected whole, and of one that starts with a gap
-pub gathered-none : (p : ℕ → Bool) (x n : ℕ) (f : ℕ → ℕ) → n ≡ 0 → gathered p x n f ≡ []
-unfolding gathered
-gathered-none p x n f e = rw e refl
-
-gathered-all : (p : ℕ → Bool) (x m : ℕ) (f : ℕ → ℕ) → ((y : ℕ) → y < m → p (x + y) ≡ true) → gathered p x m f ≡ tabulated x m f
-unfolding gathered tabulated
-gathered-all p x zero f h = refl
-gathered-all p x (suc m) f h =
-    rw (ap p (sym (add-zero x)) ∙ h 0 (omega arith))
-    (ap (λ (l : List ℕ). f x ∷ l) (gathered-all p (suc x) m f (λ y l. ap p (let e : suc x + y ≡ x + suc y = omega arith in e) ∙ h (suc y) (omega arith))))
-
-pub gathered-skip : (p : ℕ → Bool) (x d n : ℕ) (f : ℕ → ℕ) → ((y : ℕ) → y < d → p (x + y) ≡ false) → gathered p x n f ≡ gathered p (x + d) (n - d) f
-unfolding gathered
-gathered-skip p x zero n f h = rw (add-zero x, sub-zero n) refl
-gathered-skip p x (suc d) zero f h = rw (zero-sub (suc d)) refl
-gathered-skip p x (suc d) (suc n) f h =
-    rw (ap p (sym (add-zero x)) ∙ h 0 (omega arith))
-    (gathered-skip p (suc x) d n f (λ y l. ap p (let e : suc x + y ≡ x + suc y = omega arith in e) ∙ h (suc y) (omega arith))
-    ∙ ap₂ (λ (z m : ℕ). gathered p z m f) (let e : suc x + d ≡ x + suc d = omega arith in e) (let e : n - d ≡ suc n - suc d = omega arith in e))
-
-pub countIn-skip : (p : ℕ → Bool) (x d n : ℕ) → ((y : ℕ) → y < d → p (x + y) ≡ false) → countIn p x n ≡ countIn p (x + d) (n - d)
-countIn-skip p x d n h =
-    let f : ℕ → ℕ = λ _. 0 in
-    sym (length-gathered p x n f) ∙ ap length (gathered-skip p x d n f h) ∙ length-gathered p (x + d) (n - d) f
 
 -- A STEP in what is left of a window, n offsets from x on: the first m are selected, and `far` from x is the next one to go on at
 pub record Passes (p : ℕ → Bool) (x n m far : ℕ) : Type 0 where
@@ -64,17 +38,34 @@ module _ {p : ℕ → Bool} {x n m far : ℕ} (S : Passes p x n m far) where
         length-gathered p (x + far) (n - far) f,
       )
 
-module _ {p : ℕ → Bool} {x run far : ℕ} (A : Ahead p x run far) (n m : ℕ) where
-  -- to the front's end, inside the run
-  pub front-passes : m < run → m ≤ n → Passes p x n m m
-  front-passes less fits = record {
-    within = fits;
-    ahead = omega arith;
-    all = λ y l. A .all y (omega arith);
-    next = A .all m less;
-    rest = λ f. refl;
-  }
+  -- it can be taken in two: over the first k, and then over the others
+  module _ (k : ℕ) (less : k < m) where
+    pub pass-front : Passes p x n k k
+    pass-front = record {
+      within = omega (arith, S .within);
+      ahead = omega arith;
+      all = λ y l. S .all y (omega arith);
+      next = S .all k less;
+      rest = λ f. refl;
+    }
 
+    pub pass-others : Passes p (x + k) (n - k) (m - k) (far - k)
+    pass-others =
+        let there : (u : ℕ) → k ≤ u → x + k + (u - k) ≡ x + u = λ u l. omega arith in
+        let left : (u : ℕ) → k ≤ u → n - k - (u - k) ≡ n - u = λ u l. omega arith in
+        let on : k ≤ far = omega (arith, S .ahead) in
+        record {
+          within = omega (arith, S .within);
+          ahead = omega (arith, S .ahead);
+          all = λ y l. ap p (let z : x + k + y ≡ x + (k + y) = omega arith in z) ∙ S .all (k + y) (omega arith);
+          next = ap p (there far on) ∙ S .next;
+          rest = λ f.
+              ap₂ (λ (z u : ℕ). gathered p z u f) (there m (omega arith)) (left m (omega arith))
+              ∙ S .rest f
+              ∙ sym (ap₂ (λ (z u : ℕ). gathered p z u f) (there far on) (left far on));
+        }
+
+module _ {p : ℕ → Bool} {x run far : ℕ} (A : Ahead p x run far) (n m : ℕ) where
   -- to the next run, of the window's part of this one
   module _ (clipped : m ≡ min run n) where
     past-run : (f : ℕ → ℕ) → gathered p (x + m) (n - m) f ≡ gathered p (x + far) (n - far) f

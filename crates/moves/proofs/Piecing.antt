@@ -3,7 +3,7 @@ use mathlib.Core.Path.{_≡_, refl, sym, ap, ap₂, _∙_}
 use mathlib.Core.Bool.{Bool, true, false, _||_}
 use mathlib.Core.List.{List}
 use mathlib.Core.Logic.{_⊎_, ⊎-elim}
-use Prim.Native.Nat.{ℕ, _+_, _-_, _*_, _/_, _%_, _^_, _≤_, _<_}
+use Prim.Native.Nat.{ℕ, _+_, _-_, _*_, _/_, _^_, _≤_, _<_, min}
 use native.Mathlib.Nat.{mod-lt}
 use native.Mathlib.Omega.{arith}
 use lib.Dec.{eqb}
@@ -13,25 +13,52 @@ use Rattle.counting.specs.Count.{countBelow, countIn}
 use Rattle.counting.specs.Periodic.{owns}
 use Rattle.counting.specs.Elements.{Elements, element, Partition}
 use Rattle.counting.specs.Trays.{trayPlace}
-use Rattle.counting.proofs.Cases.{byTest}
+use Rattle.counting.proofs.Cases.{byTest, lt-or-le}
 use Rattle.counting.proofs.Counts.{count-window, count-mono, count-le}
-use Rattle.counting.proofs.Periods.{rank-owns}
+use Rattle.counting.proofs.Periods.{rank-owns, period-count}
 use Rattle.counting.proofs.Elements.{first-only}
 use Rattle.counting.proofs.Trays.{place-within}
 use Rattle.counting.proofs.TrayParts.{place-of}
 use Rattle.moves.specs.declared.pieces.Cycle.{Cycle}
 use Rattle.moves.specs.declared.pieces.Piece.{Piece}
 use Rattle.moves.specs.declared.shares.Share.{Share}
+use Rattle.moves.specs.Strides.{Ahead}
 use Rattle.moves.specs.Tables.{heldBy}
-use Rattle.moves.specs.Parts.{shareAt, ShareOf, elementsBy, Sources, PieceOf, takes}
-use Rattle.moves.proofs.Looking.{from-place}
-use Rattle.moves.proofs.Cycling.{period-count, length-tabled, element-tabled, tabled-once}
+use Rattle.moves.specs.Parts.{shareAt, ShareOf, elementsBy, Sources, placeIn, pieceAt, rankOf, sourceOf, Piece·ok, Source·ok, takes}
+use Rattle.moves.proofs.Looking.{ahead-shifted, from-place}
+use Rattle.moves.proofs.Cycling.{length-tabled, element-tabled, tabled-once}
 
--- x's place in its period
-abbrev pub placeIn : Cycle → (x : ℕ) → ℕ
-placeIn c x = (x - c .from) % c .period
+-- a piece of at most `run` numbers from x on: one element has it all
+pub record PieceOf (L : Elements) (x run : ℕ) (piece : Piece) : Type 0 where
+  pub some : 1 ≤ piece .len
+  pub most : piece .len ≤ run
+  pub number : 1 ≤ piece .owner
+  pub all : (y : ℕ) → y < piece .len → element L (piece .owner - 1) (x + y) ≡ true
 
-module _ {c : Cycle} {a n : ℕ} {owners keeps ranks shares : List ℕ} (S : Sources c a n owners keeps ranks shares) where
+-- a step over a piece of `len` numbers, and over others that are not taken
+pub record StepOver (L : Elements) (only x len step : ℕ) : Type 0 where
+  pub least : len ≤ step
+  pub none : (y : ℕ) → len ≤ y → y < step → takes L only (x + y) ≡ false
+
+pub step-just : (L : Elements) (only x : ℕ) {len step : ℕ} → step ≡ len → StepOver L only x len step
+step-just L only x e = record { least = omega arith; none = λ y k l. absurd (omega arith) }
+
+-- ---- what the code asks, by the records
+-- the tables have the place
+pub place-held : {c : Cycle} {owners keeps : List ℕ} (x : ℕ) → Piece·ok c owners keeps x
+    → (placeIn c x < length owners) × (placeIn c x < length keeps)
+place-held {c} x A =
+    let within = mod-lt (x - c .from) (A .some) in
+    (omega (arith, A .owners-held), omega (arith, A .keeps-held))
+
+-- the numbers from which the place in the tray is made
+pub source-fits : {ranks shares : List ℕ} {p : Piece} → Source·ok ranks shares p → (share : Share) → share ≡ shareAt shares (p .owner - 1)
+    → (rank : ℕ) → rank ≡ getD ranks (p .place) 0 → let passed = p .whole * share .size + rank in
+    (share .before .0 ≤ passed) × (share .start .0 + passed < 2 ^ 41)
+source-fits A share is rank reads = rw (is, reads) (A .after, A .near)
+
+-- ---- by the sources
+module _ {c : Cycle} {a n : ℕ} {owners keeps skips ranks shares : List ℕ} (S : Sources c a n owners keeps skips ranks shares) where
   pub sources-once : Partition (elementsBy c owners) a n
   sources-once = tabled-once (c .elements) (c .from) (c .period) owners (S .owned) (S .some) a n (S .after)
 
@@ -52,13 +79,16 @@ module _ {c : Cycle} {a n : ℕ} {owners keeps ranks shares : List ℕ} (S : Sou
     place-inside : place < c .period
     place-inside = mod-lt (x - c .from) (S .some)
 
-    -- the tables have the place
-    pub place-held : (place < length owners) × ((place < length keeps) × (place < length ranks))
-    place-held =
-        let within = place-inside in
-        (omega (arith, S .owned .held), (omega (arith, S .keeps-held), omega (arith, S .ranked .held)))
+    pub piece-asks : Piece·ok c owners keeps x
+    piece-asks = record {
+      some = S .some;
+      owners-held = S .owned .held;
+      keeps-held = S .keeps-held;
+      after = omega (arith, S .after);
+      near = omega (arith, S .near);
+    }
 
-    pub owner-some : 1 ≤ owner
+    owner-some : 1 ≤ owner
     owner-some = S .owned .some place place-inside
 
     owner-most : owner ≤ c .elements
@@ -67,76 +97,103 @@ module _ {c : Cycle} {a n : ℕ} {owners keeps ranks shares : List ℕ} (S : Sou
     owner-there : owner - 1 < length L
     owner-there = omega (arith, length-tabled (c .elements) (c .from) (c .period) owners, owner-some, owner-most)
 
-    -- the row has the owner's share
-    pub share-held : 4 * (owner - 1) + 3 < length shares
-    share-held = omega (arith, S .shared .held, owner-there)
-
     owner-element : element L (owner - 1) ≡ owns (c .from) (c .period) (heldBy owners owner)
     owner-element = element-tabled (c .elements) (c .from) (c .period) owners owner owner-some owner-most
 
-    -- the owner has what the place keeps
-    owner-keeps : (y : ℕ) → y ≤ getD keeps place 0 → element L (owner - 1) (x + y) ≡ true
-    owner-keeps y l =
-        ap (λ (p : ℕ → Bool). p (x + y)) owner-element
-        ∙ from-place (c .from) (c .period) (heldBy owners owner) x (omega (arith, S .after)) y
-        ∙ S .kept place y place-inside l
+    -- what lies ahead for the owner
+    owner-ahead : Ahead (element L (owner - 1)) x (getD keeps place 0 + 1) (getD skips place 0 + 1)
+    owner-ahead = ahead-shifted
+        (λ y. ap (λ (p : ℕ → Bool). p (x + y)) owner-element ∙ from-place (c .from) (c .period) (heldBy owners owner) x (omega (arith, S .after)) y)
+        (S .ahead place place-inside .ahead)
 
-    module _ (share : Share) (is : share ≡ shareAt shares (owner - 1)) where
-      shared : ShareOf L (c .from) (c .period) a n (owner - 1) share
-      shared = rw is (S .shared .each (owner - 1) owner-there)
+    abbrev share : Share
+    share = shareAt shares (owner - 1)
 
-      size-is : share .size ≡ countBelow (heldBy owners owner) (c .period)
-      size-is =
-          shared .size
-          ∙ ap (λ (p : ℕ → Bool). countIn p (c .from) (c .period)) owner-element
-          ∙ period-count (c .from) (c .period) (heldBy owners owner)
+    shared : ShareOf L (c .from) (c .period) a n (owner - 1) share
+    shared = S .shared .each (owner - 1) owner-there
 
-      module _ (rank : ℕ) (reads : rank ≡ getD ranks place 0) where
-        abbrev passed : ℕ
-        passed = (x - c .from) / c .period * share .size + rank
+    size-is : share .size ≡ countBelow (heldBy owners owner) (c .period)
+    size-is =
+        shared .size
+        ∙ ap (λ (p : ℕ → Bool). countIn p (c .from) (c .period)) owner-element
+        ∙ period-count (c .from) (c .period) (heldBy owners owner)
 
-        -- THE RANK: whole periods, and what of the last one lies before the place
-        rank-is : passed ≡ countBelow (element L (owner - 1)) x
-        rank-is =
-            ap₂ (λ (u v : ℕ). (x - c .from) / c .period * u + v) size-is (reads ∙ S .ranked .each place place-inside)
-            ∙ sym (rank-owns (c .from) (c .period) (heldBy owners owner) x (S .some) (omega (arith, S .after)))
-            ∙ ap (λ (p : ℕ → Bool). countBelow p x) (sym owner-element)
+    -- ---- the piece there
+    module _ {run : ℕ} (some : 1 ≤ run) {piece : Piece} (is : piece ≡ pieceAt c owners keeps x run) where
+      pub piece-is : PieceOf L x run piece
+      piece-is = rw is (record {
+        some = omega arith;
+        most = omega arith;
+        number = owner-some;
+        all = λ y l. owner-ahead .all y (omega arith);
+      })
 
-        pub passed-near : passed ≤ 2 ^ 40
-        passed-near = omega (arith, rank-is, count-le (element L (owner - 1)) x, S .near)
+      abbrev passed : ℕ
+      passed = rankOf ranks shares (pieceAt c owners keeps x run)
 
-        pub passed-after : share .before .0 ≤ passed
-        passed-after = omega (arith, rank-is, shared .before, count-mono (element L (owner - 1)) a x (omega arith))
+      -- THE RANK: whole periods, and what of the last one lies before the place
+      rank-is : passed ≡ countBelow (element L (owner - 1)) x
+      rank-is =
+          ap₂ (λ (u v : ℕ). (x - c .from) / c .period * u + v) size-is (S .ranked .each place place-inside)
+          ∙ sym (rank-owns (c .from) (c .period) (heldBy owners owner) x (S .some) (omega (arith, S .after)))
+          ∙ ap (λ (p : ℕ → Bool). countBelow p x) (sym owner-element)
 
-        source-is : share .start .0 + (passed - share .before .0) ≡ trayPlace L a n x
-        source-is =
-            let q = element L (owner - 1) in
-            let here : q x ≡ true = ap q (let z : x ≡ x + 0 = omega arith in z) ∙ owner-keeps 0 (omega arith) in
-            omega (
-              arith,
-              place-of L a n (owner - 1) x (sources-once x (omega arith) (omega arith)) here,
-              count-window q a x (omega arith),
-              rank-is,
-              shared .start,
-              shared .before,
-            )
+      passed-after : share .before .0 ≤ passed
+      passed-after = omega (arith, rank-is, shared .before, count-mono (element L (owner - 1)) a x (omega arith))
 
-        pub source-near : share .start .0 + (passed - share .before .0) < 2 ^ 40
-        source-near = omega (arith, source-is, place-within L a n sources-once x (omega arith) (omega arith), S .near)
+      pub source-is : sourceOf ranks shares piece ≡ trayPlace L a n x
+      source-is =
+          let q = element L (owner - 1) in
+          let here : q x ≡ true = ap q (let z : x ≡ x + 0 = omega arith in z) ∙ owner-ahead .all 0 (omega arith) in
+          rw is (omega (
+            arith,
+            place-of L a n (owner - 1) x (sources-once x (omega arith) (omega arith)) here,
+            count-window q a x (omega arith),
+            rank-is,
+            shared .start,
+            shared .before,
+          ))
 
-        pub piece-is : (run len : ℕ) → (1 ≤ len) × ((len ≤ run) × (len ≤ getD keeps place 0 + 1))
-            → PieceOf L a n x run (record { owner = owner; len = len; source = record { 0 = share .start .0 + (passed - share .before .0) } })
-        piece-is run len fits = record {
-          some = fits .0;
-          most = fits .1 .0;
-          number = owner-some;
-          there = owner-there;
-          all = λ y l. owner-keeps y (omega (arith, fits .1 .1));
-          source = source-is;
+      pub source-asks : Source·ok ranks shares piece
+      source-asks = rw is (record {
+        number = owner-some;
+        ranked = omega (arith, place-inside, S .ranked .held);
+        shared = omega (arith, S .shared .held, owner-there);
+        after = passed-after;
+        near = omega (
+          arith,
+          ap (sourceOf ranks shares) (sym is) ∙ source-is,
+          place-within L a n sources-once x (omega arith) (omega arith),
+          rank-is,
+          count-le (element L (owner - 1)) x,
+          S .near,
+        );
+      })
+
+      pub beyond-asks : piece .place < length skips
+      beyond-asks = rw is (omega (arith, place-inside, S .skips-held))
+
+      -- what `beyond` says: the owner has nothing between the piece and there
+      module _ (far : ℕ) (ends : (piece .len < run → far ≡ getD skips (piece .place) 0 + 1) × (run ≤ piece .len → far ≡ run)) where
+        beyond-ahead : (piece .len ≤ far) × ((y : ℕ) → piece .len ≤ y → y < far → element L (piece .owner - 1) (x + y) ≡ false)
+        beyond-ahead =
+            let ends′ = rw is at ends in
+            rw is (⊎-elim
+            (λ d. (omega (arith, ends′ .0 d, owner-ahead .within), λ y k l. owner-ahead .none y (omega arith) (omega (arith, ends′ .0 d))))
+            (λ d. (omega (arith, ends′ .1 d), λ y k l. absurd (omega (arith, ends′ .1 d))))
+            (lt-or-le (min run (getD keeps place 0 + 1)) run))
+
+        pub beyond-least : piece .len ≤ far
+        beyond-least = beyond-ahead .0
+
+        pub step-beyond : (only : ℕ) → (only ≡ 0 → ⊥) → (only ≡ 0) ⊎ (only ≡ piece .owner) → StepOver L only x (piece .len) far
+        step-beyond only some chosen = record {
+          least = beyond-least;
+          none = λ y k l. ⊎-elim (λ e. absurd (some e)) (λ e. rw (ne-eqb only 0 some) (rw e (beyond-ahead .1 y k l))) chosen;
         }
 
 -- ---- what of a piece is taken: all of it, or none
-module _ {L : Elements} {a n x run : ℕ} {piece : Piece} (P : PieceOf L a n x run piece) (only : ℕ) where
+module _ {L : Elements} {x run : ℕ} {piece : Piece} (P : PieceOf L x run piece) (only : ℕ) where
   pub piece-taken : (only ≡ 0) ⊎ (only ≡ piece .owner) → (y : ℕ) → y < piece .len → takes L only (x + y) ≡ true
   piece-taken chosen y l = ⊎-elim
       (λ e. rw (eq-eqb only 0 e) refl)
@@ -147,9 +204,9 @@ module _ {L : Elements} {a n x run : ℕ} {piece : Piece} (P : PieceOf L a n x r
       or-true true = refl
       or-true false = refl
 
-  pub piece-left : Partition L a n → a ≤ x → x + run ≤ a + n → (only ≡ 0 → ⊥) → (only ≡ piece .owner → ⊥)
+  pub piece-left : (a n : ℕ) → Partition L a n → a ≤ x → x + run ≤ a + n → (only ≡ 0 → ⊥) → (only ≡ piece .owner → ⊥)
       → (y : ℕ) → y < piece .len → takes L only (x + y) ≡ false
-  piece-left once after fits some other y l =
+  piece-left a n once after fits some other y l =
       rw (ne-eqb only 0 some) (byTest (element L (only - 1) (x + y))
       (λ t.
       let one = once (x + y) (omega arith) (omega (arith, P .most)) in

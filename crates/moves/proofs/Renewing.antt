@@ -10,19 +10,22 @@ use lib.Seq.{take-add, drop-drop, paste, drop-paste}
 use Rattle.counting.specs.Count.{countIn}
 use Rattle.counting.specs.Gather.{tabulated}
 use Rattle.counting.specs.Elements.{Elements, element, Partition}
-use Rattle.counting.specs.Trays.{inTray}
+use Rattle.counting.specs.Trays.{trayPlace, inTray}
+use Rattle.counting.proofs.Cases.{lt-or-le}
 use Rattle.counting.proofs.Gathers.{tabulated-ext, tabulated-part}
 use Rattle.counting.proofs.TrayParts.{run-within, tray-run}
 use Rattle.maps.specs.declared.Selection.{Selection}
+use Rattle.moves.specs.declared.pieces.Cycle.{Cycle}
 use Rattle.moves.specs.declared.pieces.Piece.{Piece}
 use Rattle.moves.specs.declared.walks.Walk.{Walk}
 use Rattle.moves.specs.Strides.{Strides, furthers}
 use Rattle.moves.specs.Walks.{Stands, Begun}
-use Rattle.moves.specs.Parts.{PieceOf, takes, renewed}
-use Rattle.moves.proofs.Passing.{Passes}
-use Rattle.moves.proofs.Striding.{stepped, packed-place, step-ahead, further-passes}
+use Rattle.moves.specs.Parts.{elementsBy, Sources, pieceAt, sourceOf, Source·ok, takes, renewed}
+use Rattle.moves.proofs.Passing.{Passes, pass-front, pass-others}
+use Rattle.moves.proofs.Striding.{step-there, step-left, stepped, stepped-twice, packed-place, step-passes, further-passes}
 use Rattle.moves.proofs.Packing.{Packing, packing-start, packing-end, packing-room, packing-on, packing-copied}
-use Rattle.moves.proofs.Piecing.{piece-taken, piece-left}
+use Rattle.moves.proofs.Piecing.{PieceOf, StepOver, sources-once, piece-is, piece-taken, piece-left}
+use Rattle.moves.proofs.Piecing.{source-asks, source-is, beyond-asks, beyond-least, step-beyond}
 
 -- the byte of x in the renewed part
 abbrev pub newByte : (q : ℕ → Bool) → (a : ℕ) → (taken : ℕ → Bool) → (f : ℕ → ℕ) → (old : List ℕ) → ℕ → ℕ
@@ -83,61 +86,128 @@ module _ {s : Selection} {q : ℕ → Bool} {a n : ℕ} {taken : ℕ → Bool} {
           kept = rw e still;
         }
 
+-- .. over m numbers, of which the first k are taken, and the others are not
+module _ {s : Selection} {q : ℕ → Bool} {a n : ℕ} {taken : ℕ → Bool} {f : ℕ → ℕ} {old part : List ℕ} {w : Walk}
+    (R : Renewing s q a n taken f old part w) {m far : ℕ} (S : Passes q (a + w .at) (n - w .at) m far) (w′ : Walk) (e : w′ ≡ stepped s w far m) where
+  renewing-front : w .at + m ≤ n → (k : ℕ) → k ≤ m
+      → ((y : ℕ) → y < k → taken (a + w .at + y) ≡ true) → ((y : ℕ) → k ≤ y → y < m → taken (a + w .at + y) ≡ false)
+      → (l : List ℕ) (i : ℕ) → i + k ≤ length l → tabulated (a + w .at) k f ≡ take k (drop i l)
+      → (part′ : List ℕ) → part′ ≡ paste part (w .packed) (drop i l) k → Renewing s q a n taken f old part′ w′
+  renewing-front inside k most all none l i held bytes part′ is = ⊎-elim two one (lt-or-le k m)
+    where
+      two : k < m → Renewing s q a n taken f old part′ w′
+      two less = renewing-left
+          (renewing-copied R (pass-front S k less) (stepped s w k k) refl all l i held bytes part′ is)
+          (rw (step-there a w k, step-left n w k) at (pass-others S k less))
+          w′ (e ∙ sym (stepped-twice s w k far m (omega (arith, S .ahead)) most))
+          (λ y h. ap taken (let d : a + (w .at + k) + y ≡ a + w .at + (k + y) = omega arith in d) ∙ none (k + y) (omega arith) (omega arith))
+          (omega arith)
+
+      one : m ≤ k → Renewing s q a n taken f old part′ w′
+      one past =
+          let same : m ≡ k = omega arith in
+          renewing-copied R (rw same at S) w′ (rw same at e) all l i held bytes part′ is
+
 -- ---- a piece of a run, which one element of L has
 module _ {s : Selection} {q : ℕ → Bool} {a n : ℕ} {w : Walk} {L : Elements} {runs hops : List ℕ} (T : Strides s q runs hops) (W : Stands s q a n w)
     (inside : w .at < n) (run : ℕ) (clipped : run ≡ min (getD runs (w .place) 0 + 1) (n - w .at))
-    (piece : Piece) (P : PieceOf L a n (a + w .at) run piece) where
+    (piece : Piece) (P : PieceOf L (a + w .at) run piece) where
   has : (z : ℕ) → a + w .at ≤ z → z < a + w .at + piece .len → element L (piece .owner - 1) z ≡ true
   has z u v = ap (element L (piece .owner - 1)) (let d : z ≡ a + w .at + (z - (a + w .at)) = omega arith in d) ∙ P .all (z - (a + w .at)) (omega arith)
 
   fits : a + w .at + piece .len ≤ a + n
   fits = omega (arith, P .most)
 
-  -- what `further` asks besides
-  pub piece-asks : (piece .len ≤ run) × (run ≤ getD hops (w .place) 0 + 1)
-  piece-asks = (P .most, omega (arith, step-ahead T W inside run clipped .within))
-
-  module _ (w′ : Walk) (e : w′ ≡ furthers s hops w run (piece .len)) where
-    step : (to : ℕ) × Passes q (a + w .at) (n - w .at) (piece .len) to × (w′ ≡ stepped s w to (piece .len))
-    step = further-passes T W inside run clipped (piece .len) (P .most) w′ e
-
-    pub piece-forward : w .at < w′ .at
-    piece-forward = omega (arith, step .1 .ahead, ap (λ (v : Walk). v .at) (step .2), P .some)
-
   -- its bytes stand in the tray one after the other
-  module _ (once : Partition L a n) (tray : List ℕ) (long : length tray ≡ n) where
-    piece-held : piece .source .0 + piece .len ≤ length tray
-    piece-held = omega (arith, P .source, run-within L a n once (piece .owner - 1) (a + w .at) (piece .len) (omega arith) fits has (P .some))
+  module _ (once : Partition L a n) (tray : List ℕ) (long : length tray ≡ n) (source : ℕ) (there : source ≡ trayPlace L a n (a + w .at)) where
+    piece-held : source + piece .len ≤ length tray
+    piece-held = omega (arith, run-within L a n once (piece .owner - 1) (a + w .at) (piece .len) (omega arith) fits has (P .some))
 
-    piece-bytes : tabulated (a + w .at) (piece .len) (inTray L a n tray) ≡ take (piece .len) (drop (piece .source .0) tray)
+    piece-bytes : tabulated (a + w .at) (piece .len) (inTray L a n tray) ≡ take (piece .len) (drop source tray)
     piece-bytes =
         tray-run L a n once (piece .owner - 1) (a + w .at) (piece .len) (omega arith) fits has tray long
-        ∙ ap (λ (i : ℕ). take (piece .len) (drop i tray)) (sym (P .source))
+        ∙ ap (λ (i : ℕ). take (piece .len) (drop i tray)) (sym there)
 
--- ---- .. and what is done with it
-module _ {s : Selection} {q : ℕ → Bool} {a n : ℕ} {old part : List ℕ} {w : Walk} {L : Elements} (only : ℕ) (tray : List ℕ)
-    (R : Renewing s q a n (takes L only) (inTray L a n tray) old part w) (once : Partition L a n) (long : length tray ≡ n)
-    {runs hops : List ℕ} (T : Strides s q runs hops) (inside : w .at < n)
-    (run : ℕ) (clipped : run ≡ min (getD runs (w .place) 0 + 1) (n - w .at)) (piece : Piece) (P : PieceOf L a n (a + w .at) run piece) where
+-- ---- where the loop has found a piece, by what is written down of the first layout
+pub record AtPiece (s : Selection) (q : ℕ → Bool) (runs hops : List ℕ) (a n : ℕ) (c : Cycle) (owners keeps skips ranks shares : List ℕ) (only : ℕ)
+    (tray old part : List ℕ) (w : Walk) (run : ℕ) (piece : Piece) : Type 0 where
+  pub strides : Strides s q runs hops
+  pub sources : Sources c a n owners keeps skips ranks shares
+  pub long : length tray ≡ n
+  pub renewing : Renewing s q a n (takes (elementsBy c owners) only) (inTray (elementsBy c owners) a n tray) old part w
+  pub inside : w .at < n
+  pub clipped : run ≡ min (getD runs (w .place) 0 + 1) (n - w .at)
+  pub is : piece ≡ pieceAt c owners keeps (a + w .at) run
+
+module _ {s : Selection} {q : ℕ → Bool} {runs hops : List ℕ} {a n : ℕ} {c : Cycle} {owners keeps skips ranks shares : List ℕ} {only : ℕ}
+    {tray old part : List ℕ} {w : Walk} {run : ℕ} {piece : Piece}
+    (A : AtPiece s q runs hops a n c owners keeps skips ranks shares only tray old part w run piece) where
+  abbrev L : Elements
+  L = elementsBy c owners
+
+  abbrev x : ℕ
+  x = a + w .at
+
   W : Stands s q a n w
-  W = R .packing .stands
+  W = A .renewing .packing .stands
 
-  -- what `copy_run` asks
-  pub piece-room : (piece .source .0 + piece .len ≤ length tray) × (w .packed + piece .len ≤ length part)
-  piece-room = (
-    piece-held T W inside run clipped piece P once tray long,
-    packing-room (R .packing) (step T W inside run clipped piece P (furthers s hops w run (piece .len)) refl .1),
-  )
+  some : 1 ≤ run
+  some = omega (arith, A .clipped, A .inside)
 
-  -- it is copied where it is taken, and else the part stays
-  pub piece-next : (w′ : Walk) → w′ ≡ furthers s hops w run (piece .len) → (part′ : List ℕ)
-      → (((only ≡ 0) ⊎ (only ≡ piece .owner)) × (part′ ≡ paste part (w .packed) (drop (piece .source .0) tray) (piece .len)))
-      ⊎ (((only ≡ 0 → ⊥) × (only ≡ piece .owner → ⊥)) × (part′ ≡ part))
-      → Renewing s q a n (takes L only) (inTray L a n tray) old part′ w′
-  piece-next w′ e part′ done =
-      let t = step T W inside run clipped piece P w′ e in
-      ⊎-elim
-      (λ d. renewing-copied R (t .1) w′ (t .2) (piece-taken P only (d .0)) tray (piece .source .0) (piece-room .0)
-      (piece-bytes T W inside run clipped piece P once tray long) part′ (d .1))
-      (λ d. rw (d .1) (renewing-left R (t .1) w′ (t .2) (piece-left P only once (omega arith) (omega arith) (d .0 .0) (d .0 .1)) (omega arith)))
-      done
+  P : PieceOf L x run piece
+  P = piece-is (A .sources) (A .inside) some (A .is)
+
+  -- what `source_of`, `copy_run` and `beyond` ask
+  pub source-asked : Source·ok ranks shares piece
+  source-asked = source-asks (A .sources) (A .inside) some (A .is)
+
+  module _ (source : ℕ) (from : source ≡ sourceOf ranks shares piece) where
+    there : source ≡ trayPlace L a n x
+    there = from ∙ source-is (A .sources) (A .inside) some (A .is)
+
+    pub copy-asked : (source + piece .len ≤ length tray) × (w .packed + piece .len ≤ length part)
+    copy-asked = (
+      piece-held (A .strides) W (A .inside) run (A .clipped) piece P (sources-once (A .sources)) tray (A .long) source there,
+      omega (arith, packing-room (A .renewing .packing) (step-passes (A .strides) W (A .inside) run (A .clipped)), P .most),
+    )
+
+  pub beyond-asked : piece .place < length skips
+  beyond-asked = beyond-asks (A .sources) (A .inside) some (A .is)
+
+  -- what `beyond` gives
+  module _ (far : ℕ) (ends : (piece .len < run → far ≡ getD skips (piece .place) 0 + 1) × (run ≤ piece .len → far ≡ run)) where
+    pub far-least : piece .len ≤ far
+    far-least = beyond-least (A .sources) (A .inside) some (A .is) far ends
+
+    pub far-over : (only ≡ 0 → ⊥) → (only ≡ 0) ⊎ (only ≡ piece .owner) → StepOver L only x (piece .len) far
+    far-over = step-beyond (A .sources) (A .inside) some (A .is) far ends only
+
+  -- ---- and how the walk goes on
+  module _ (step : ℕ) {w′ : Walk} (e : w′ ≡ furthers s hops w run step) where
+    abbrev passes : (to : ℕ) × Passes q x (n - w .at) (min step run) to × (w′ ≡ stepped s w to (min step run))
+    passes = further-passes (A .strides) W (A .inside) run (A .clipped) step w′ e
+
+    pub piece-forward : piece .len ≤ step → w .at < w′ .at
+    piece-forward least = omega (arith, passes .1 .ahead, ap (λ (v : Walk). v .at) (passes .2), P .some, P .most)
+
+    -- what it steps over after the piece is not taken
+    module _ (over : StepOver L only x (piece .len) step) where
+      -- the piece is copied where it is taken
+      pub piece-copied : (only ≡ 0) ⊎ (only ≡ piece .owner) → (source : ℕ) → source ≡ sourceOf ranks shares piece
+          → (part′ : List ℕ) → part′ ≡ paste part (w .packed) (drop source tray) (piece .len)
+          → Renewing s q a n (takes L only) (inTray L a n tray) old part′ w′
+      piece-copied chosen source from = renewing-front (A .renewing) (passes .1) w′ (passes .2) (omega (arith, A .clipped, A .inside))
+          (piece .len) (omega (arith, P .most, over .least))
+          (piece-taken P only chosen) (λ y k l. over .none y k (omega arith)) tray source (copy-asked source from .0)
+          (piece-bytes (A .strides) W (A .inside) run (A .clipped) piece P (sources-once (A .sources)) tray (A .long) source (there source from))
+
+      -- .. and else the part stays
+      pub piece-passed : (only ≡ 0 → ⊥) → (only ≡ piece .owner → ⊥) → (part′ : List ℕ) → part′ ≡ part
+          → Renewing s q a n (takes L only) (inTray L a n tray) old part′ w′
+      piece-passed more other part′ same =
+          rw same (renewing-left (A .renewing) (passes .1) w′ (passes .2)
+          (λ y l. ⊎-elim
+          (λ h. piece-left P only a n (sources-once (A .sources)) (omega arith) (omega (arith, A .clipped, A .inside)) more other y h)
+          (λ h. over .none y h (omega arith))
+          (lt-or-le y (piece .len)))
+          (omega (arith, A .inside)))

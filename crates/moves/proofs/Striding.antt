@@ -9,7 +9,7 @@ use native.Mathlib.Omega.{arith}
 use lib.ListN.{length, getD}
 use Rattle.counting.specs.Count.{countIn}
 use Rattle.counting.proofs.Cases.{lt-or-le}
-use Rattle.counting.proofs.Counts.{count-le, count-all, countIn-split}
+use Rattle.counting.proofs.Counts.{count-all, countIn-split, countIn-le}
 use Rattle.maps.specs.declared.Selection.{Selection}
 use Rattle.maps.specs.declared.Window.{Window}
 use Rattle.maps.specs.Selected.{belongs, Selection·ok}
@@ -17,11 +17,7 @@ use Rattle.moves.specs.declared.walks.Walk.{Walk}
 use Rattle.moves.specs.Strides.{Ahead, AheadBy, Strides, Onward·ok, onwards, furthers}
 use Rattle.moves.specs.Walks.{Stands, Carries}
 use Rattle.moves.proofs.Beginnings.{furthers-on, furthers-in}
-use Rattle.moves.proofs.Passing.{Passes, count-pass, run-passes, front-passes}
-
-pub countIn-le : (p : ℕ → Bool) (a n : ℕ) → countIn p a n ≤ n
-unfolding countIn
-countIn-le p a n = count-le (λ y. p (a + y)) n
+use Rattle.moves.proofs.Passing.{Passes, count-pass, pass-front, run-passes}
 
 -- the offset `far` further on, and what is left of the window from there on
 pub step-there : (a : ℕ) (w : Walk) (far : ℕ) → a + w .at + far ≡ a + (w .at + far)
@@ -33,6 +29,16 @@ step-left n w far = omega arith
 -- `far` offsets further on, with m bytes more
 abbrev pub stepped : Selection → Walk → (far m : ℕ) → Walk
 stepped s w far m = record { at = w .at + far; place = (w .place + far) % s .period; packed = w .packed + m }
+
+-- two steps are one
+pub stepped-twice : (s : Selection) (w : Walk) (k far m : ℕ) → k ≤ far → k ≤ m → stepped s (stepped s w k k) (far - k) (m - k) ≡ stepped s w far m
+stepped-twice s w k far m on most =
+    let at : w .at + k + (far - k) ≡ w .at + far = omega arith in
+    let packed : w .packed + k + (m - k) ≡ w .packed + m = omega arith in
+    let place : ((w .place + k) % s .period + (far - k)) % s .period ≡ (w .place + far) % s .period =
+    mod-add-mod (w .place + k) (s .period) (far - k)
+    ∙ ap (λ (z : ℕ). z % s .period) (let z : w .place + k + (far - k) ≡ w .place + far = omega arith in z) in
+    rw (at, place, packed) refl
 
 -- ---- a step over selected offsets
 module _ {s : Selection} {p : ℕ → Bool} {a n : ℕ} {w : Walk} (W : Stands s p a n w) {m far : ℕ} (S : Passes p (a + w .at) (n - w .at) m far) where
@@ -101,12 +107,14 @@ module _ {s : Selection} {p : ℕ → Bool} {runs hops : List ℕ} {a n : ℕ} {
     step-on = pass-stands W step-passes
 
     -- over the first `len` of the run: to a later one of it, or to the next run
-    pub further-passes : (len : ℕ) → len ≤ run → (w′ : Walk) → w′ ≡ furthers s hops w run len
-        → (to : ℕ) × Passes p (a + w .at) (n - w .at) len to × (w′ ≡ stepped s w to len)
-    further-passes len most w′ e = ⊎-elim
-        (λ l. (len, front-passes step-ahead (n - w .at) len (omega arith) (omega arith), e ∙ furthers-in s hops w run len l))
+    pub further-passes : (len : ℕ) (w′ : Walk) → w′ ≡ furthers s hops w run len
+        → (to : ℕ) × Passes p (a + w .at) (n - w .at) (min len run) to × (w′ ≡ stepped s w to (min len run))
+    further-passes len w′ e = ⊎-elim
         (λ l.
-        let all : len ≡ run = omega arith in
+        let some : min len run ≡ len = omega arith in
+        (len, rw some (pass-front step-passes len l), e ∙ furthers-in s hops w run len l ∙ rw some refl))
+        (λ l.
+        let all : min len run ≡ run = omega arith in
         (far, rw all step-passes, e ∙ furthers-on s hops w run len l ∙ rw all refl))
         (lt-or-le len run)
 
@@ -123,5 +131,9 @@ module _ {s : Selection} {row : List ℕ} {window : Window} {n k : ℕ} (C : Car
     pub run-asks : (w .place < length runs) × ((window .start .0 ≤ window .end .0) × (w .at ≤ window .end .0 - window .start .0))
     run-asks = (step-held T W before, (omega (arith, C .some), omega (arith, before)))
 
-    pub onward-asks : (run : ℕ) → run ≡ min (getD runs (w .place) 0 + 1) (window .end .0 - window .start .0 - w .at) → Onward·ok s hops w run
-    onward-asks run clipped = step-asks T W before run clipped (omega (arith, C .near))
+    module _ (run : ℕ) (clipped : run ≡ min (getD runs (w .place) 0 + 1) (window .end .0 - window .start .0 - w .at)) where
+      pub onward-asks : Onward·ok s hops w run
+      onward-asks = step-asks T W before run clipped (omega (arith, C .near))
+
+      pub further-asks : Onward·ok s hops w run × (run ≤ getD hops (w .place) 0 + 1)
+      further-asks = (onward-asks, omega (arith, step-ahead T W before run clipped .within))

@@ -1,15 +1,15 @@
 -- Parts of trays: an element's share of a window, the piece of a run that one element of another layout has, and a tray that is moved in part.
 -- Assumes nothing: these are definitions.
 use mathlib.Core.Path.{_≡_}
-use mathlib.Core.Bool.{Bool, true, _&&_, _||_, cond}
+use mathlib.Core.Bool.{Bool, _&&_, _||_, cond}
 use mathlib.Core.List.{List}
-use Prim.Native.Nat.{ℕ, suc, _+_, _-_, _*_, _^_, _≤_, _<_}
+use Prim.Native.Nat.{ℕ, _+_, _-_, _*_, _/_, _%_, _^_, _≤_, _<_, min}
 use lib.Dec.{eqb, leb, ltb}
 use lib.ListN.{length, getD, take}
 use Rattle.counting.specs.Count.{countBelow, countIn}
 use Rattle.counting.specs.Gather.{gathered}
 use Rattle.counting.specs.Elements.{Elements, element, firstOf}
-use Rattle.counting.specs.Trays.{counts, tray, trayPlace, inTray}
+use Rattle.counting.specs.Trays.{counts, tray, inTray}
 use Rattle.families.specs.declared.Layout.{Layout}
 use Rattle.families.specs.Decoded.{rowOf}
 use Rattle.maps.specs.declared.Window.{Window}
@@ -19,7 +19,7 @@ use Rattle.moves.specs.declared.pieces.Cycle.{Cycle}
 use Rattle.moves.specs.declared.pieces.Piece.{Piece}
 use Rattle.moves.specs.declared.shares.Share.{Share}
 use Rattle.moves.specs.declared.parts.Chosen.{Chosen}
-use Rattle.moves.specs.Strides.{around, Strides}
+use Rattle.moves.specs.Strides.{AheadBy, around, Strides}
 use Rattle.moves.specs.Tables.{heldBy, tabled, Owned, Ranked, RoomFor}
 
 -- how many offsets a window has
@@ -53,25 +53,49 @@ abbrev pub elementsBy : Cycle → (owners : List ℕ) → Elements
 elementsBy c owners = tabled (c .elements) (c .from) (c .period) owners
 
 -- THE SOURCES: what is written down of the first layout for a window of n offsets from a on
-pub record Sources (c : Cycle) (a n : ℕ) (owners keeps ranks shares : List ℕ) : Type 0 where
+pub record Sources (c : Cycle) (a n : ℕ) (owners keeps skips ranks shares : List ℕ) : Type 0 where
   pub owned : Owned (c .elements) (c .period) owners
   pub some : 1 ≤ c .period
   pub short : c .period ≤ 2 ^ 16
   pub after : c .from ≤ a
   pub near : a + n ≤ 2 ^ 40
   pub keeps-held : c .period ≤ length keeps
-  pub kept : (u y : ℕ) → u < c .period → y ≤ getD keeps u 0 → around (heldBy owners (getD owners u 0)) (c .period) (u + y) ≡ true
+  pub skips-held : c .period ≤ length skips
+  pub ahead : (u : ℕ) → u < c .period → AheadBy (around (heldBy owners (getD owners u 0)) (c .period)) u (c .period) keeps skips u
   pub ranked : Ranked owners (c .period) ranks
   pub shared : SharesOf (elementsBy c owners) (c .from) (c .period) a n shares
 
--- a piece of at most `run` numbers from x on: one element has it all, and its bytes stand in the tray from `source` on
-pub record PieceOf (L : Elements) (a n x run : ℕ) (piece : Piece) : Type 0 where
-  pub some : 1 ≤ piece .len
-  pub most : piece .len ≤ run
-  pub number : 1 ≤ piece .owner
-  pub there : piece .owner - 1 < length L
-  pub all : (y : ℕ) → y < piece .len → element L (piece .owner - 1) (x + y) ≡ true
-  pub source : piece .source .0 ≡ trayPlace L a n x
+-- x's place in its period
+abbrev pub placeIn : Cycle → (x : ℕ) → ℕ
+placeIn c x = (x - c .from) % c .period
+
+-- the piece of at most `run` numbers from x on, which one element has
+abbrev pub pieceAt : Cycle → (owners keeps : List ℕ) → (x run : ℕ) → Piece
+pieceAt c owners keeps x run =
+    let place = placeIn c x in
+    record { owner = getD owners place 0; len = min run (getD keeps place 0 + 1); place = place; whole = (x - c .from) / c .period }
+
+-- how many of its owner's numbers lie before it, and where its bytes stand in the tray
+abbrev pub rankOf : (ranks shares : List ℕ) → Piece → ℕ
+rankOf ranks shares p = p .whole * shareAt shares (p .owner - 1) .size + getD ranks (p .place) 0
+
+abbrev pub sourceOf : (ranks shares : List ℕ) → Piece → ℕ
+sourceOf ranks shares p = let share = shareAt shares (p .owner - 1) in share .start .0 + (rankOf ranks shares p - share .before .0)
+
+-- what the code asks of the tables for a piece at x, and for its place in the tray
+pub record Piece·ok (c : Cycle) (owners keeps : List ℕ) (x : ℕ) : Type 0 where
+  pub some : 1 ≤ c .period
+  pub owners-held : c .period ≤ length owners
+  pub keeps-held : c .period ≤ length keeps
+  pub after : c .from ≤ x
+  pub near : x < 2 ^ 40
+
+pub record Source·ok (ranks shares : List ℕ) (p : Piece) : Type 0 where
+  pub number : 1 ≤ p .owner
+  pub ranked : p .place < length ranks
+  pub shared : 4 * (p .owner - 1) + 3 < length shares
+  pub after : shareAt shares (p .owner - 1) .before .0 ≤ rankOf ranks shares p
+  pub near : shareAt shares (p .owner - 1) .start .0 + rankOf ranks shares p < 2 ^ 41
 
 -- ---- what is moved
 -- every number, where `only` is 0, and else what element only - 1 has
@@ -90,6 +114,13 @@ within M first last x = leb first (firstOf M x) && ltb (firstOf M x) last
 unfoldable pub movedWhere : (L M : Elements) → (a n : ℕ) → (t : List ℕ) → Chosen → (u : List ℕ) → List ℕ
 movedWhere L M a n t c u =
     tray M a n (λ x. cond (takes L (c .only) x && within M (c .first) (c .last) x) (inTray L a n t x) (inTray M a n u x))
+
+-- all, to each of so many elements; and what owner i + 1 has, to element j
+abbrev pub everyPair : (elements : ℕ) → Chosen
+everyPair elements = record { only = 0; first = 0; last = elements }
+
+abbrev pub onePair : (i j : ℕ) → Chosen
+onePair i j = record { only = i + 1; first = j; last = j + 1 }
 
 -- what the code asks of a choice
 pub record Chosen·ok (c : Chosen) (one two : ℕ) : Type 0 where
@@ -126,8 +157,8 @@ pub record Laid (t : Layout) (size : ℕ) (w : Window) (row : List ℕ) : Type 0
   pub laid : row ≡ rowOf (t .family)
 
 -- .. and of the tables for two of them
-pub record Rooms (t1 : Layout) (size1 : ℕ) (t2 : Layout) (size2 : ℕ) (owners1 keeps ranks owners2 runs hops : List ℕ) : Type 0 where
-  pub first : RoomFor t1 size1 owners1 keeps hops
+pub record Rooms (t1 : Layout) (size1 : ℕ) (t2 : Layout) (size2 : ℕ) (owners1 keeps skips ranks owners2 runs hops : List ℕ) : Type 0 where
+  pub first : RoomFor t1 size1 owners1 keeps skips
   pub ranks-held : size1 ≤ length ranks
   pub second : RoomFor t2 size2 owners2 runs hops
 

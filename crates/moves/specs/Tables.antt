@@ -51,8 +51,9 @@ pub record NextsOf (t : Layout) (size : ℕ) (nexts : List ℕ) : Type 0 where
 pub record AllFilled (owners : List ℕ) (period : ℕ) (nexts runs hops : List ℕ) : Type 0 where
   pub each : (o : ℕ) → heldBy owners o (getD nexts o 0 - period) ≡ true → Filled (heldBy owners o) period runs hops
 
--- what the code asks of a table for owners: room for every offset of the families and every place of a period, and in the two others too
+-- what the code asks of a table for owners: zeros, with room for every offset of the families and every place of a period, and room in the two others too
 pub record RoomFor (t : Layout) (size : ℕ) (owners runs hops : List ℕ) : Type 0 where
+  pub zeros : owners ≡ replicate (length owners) 0
   pub some : 1 ≤ length owners
   pub ruled : Layout·ok 4 (length owners - 1) t
   pub held : size ≤ length owners

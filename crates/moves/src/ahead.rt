@@ -21,6 +21,8 @@ pub fn fill_strides(
     let mut place = period;
     let mut last = owners[period - 1] as usize;
     let mut run: usize = 0;
+    // how far after the run's end its owner's next run starts
+    let mut gap = nexts[last] - period;
     while 0 < place {
         place -= 1;
         let owner = owners[place] as usize;
@@ -28,9 +30,10 @@ pub fn fill_strides(
             nexts[last] = place + 1;
             last = owner;
             run = 0;
+            gap = nexts[owner] - place - 1;
         }
         runs[place] = run as u16;
-        hops[place] = (nexts[owner] - place - 1) as u16;
+        hops[place] = (run + gap) as u16;
         run += 1;
     }
 }

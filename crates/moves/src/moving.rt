@@ -14,7 +14,7 @@ use crate::tables;
 use families::Layout;
 use maps::Window;
 
-// Writes down what of the first layout a piece is found by. What lies between an element's runs is not asked for.
+// Writes down what of the first layout a piece is found by.
 pub fn put_sources(
     numbers: &[u32],
     layout: Layout,
@@ -22,16 +22,17 @@ pub fn put_sources(
     window: Window,
     owners: &mut [u8],
     keeps: &mut [u16],
-    hops: &mut [u16],
+    skips: &mut [u16],
     ranks: &mut [u16],
     shares: &mut [u64],
 )
-    requires { ⌜ Laid layout size window (now numbers) ⌝ ∗ ⌜ RoomFor layout size (now owners) (now keeps) (now hops) ⌝
+    requires { ⌜ Laid layout size window (now numbers) ⌝ ∗ ⌜ RoomFor layout size (now owners) (now keeps) (now skips) ⌝
         ∗ ⌜ size ≤ length (now ranks) ⌝ ∗ ⌜ length (now shares) ≡ 64 ⌝ }
-    ensures { λ _. ⌜ Sources (cycleOf layout size) (window .start .0) (bytesOf window) (now (owners .exit)) (now (keeps .exit)) (now (ranks .exit)) (now (shares .exit)) ⌝
+    ensures { λ _. ⌜ Sources (cycleOf layout size) (window .start .0) (bytesOf window)
+        (now (owners .exit)) (now (keeps .exit)) (now (skips .exit)) (now (ranks .exit)) (now (shares .exit)) ⌝
         ∗ ⌜ elementsBy (cycleOf layout size) (now (owners .exit)) ≡ elementsOf layout size ⌝ }
 {
-    tables::fill_tables(numbers, layout, size, owners, keeps, hops);
+    tables::fill_tables(numbers, layout, size, owners, keeps, skips);
     let mut counts = [0u32; 17];
     tables::fill_ranks(owners, size as usize, &mut counts, ranks);
     shares::share_out(numbers, layout, size, window, shares);
@@ -68,6 +69,7 @@ pub fn move_by_tables(
     chosen: Chosen,
     owners1: &mut [u8],
     keeps: &mut [u16],
+    skips: &mut [u16],
     ranks: &mut [u16],
     owners2: &mut [u8],
     runs: &mut [u16],
@@ -77,7 +79,7 @@ pub fn move_by_tables(
 )
     requires { ⌜ Laid layout1 size1 window (now numbers1) ⌝ ∗ ⌜ Laid layout2 size2 window (now numbers2) ⌝
         ∗ ⌜ Chosen·ok chosen (layout1 .elements) (layout2 .elements) ⌝ ∗ ⌜ Trays·ok window (length (now tray1)) (length (now tray2)) ⌝
-        ∗ ⌜ Rooms layout1 size1 layout2 size2 (now owners1) (now keeps) (now ranks) (now owners2) (now runs) (now hops) ⌝ }
+        ∗ ⌜ Rooms layout1 size1 layout2 size2 (now owners1) (now keeps) (now skips) (now ranks) (now owners2) (now runs) (now hops) ⌝ }
     ensures { λ _. let L = elementsOf layout1 size1 in let M = elementsOf layout2 size2 in
         ⌜ now (tray2 .exit) ≡ movedWhere L M (window .start .0) (bytesOf window) (now (tray1 .entry)) chosen (now (tray2 .entry)) ⌝ }
 {
@@ -90,7 +92,7 @@ pub fn move_by_tables(
         window,
         owners1,
         keeps,
-        hops,
+        skips,
         ranks,
         &mut shares,
     );
@@ -120,6 +122,7 @@ pub fn move_by_tables(
         cycle,
         owners1,
         keeps,
+        skips,
         ranks,
         &shares,
         chosen,
@@ -156,6 +159,7 @@ pub fn move_chosen(
     {
         let mut owners1 = [0u8; 2048];
         let mut keeps = [0u16; 2048];
+        let mut skips = [0u16; 2048];
         let mut ranks = [0u16; 2048];
         let mut owners2 = [0u8; 2048];
         let mut runs = [0u16; 2048];
@@ -171,6 +175,7 @@ pub fn move_chosen(
             chosen,
             &mut owners1,
             &mut keeps,
+            &mut skips,
             &mut ranks,
             &mut owners2,
             &mut runs,
@@ -182,6 +187,7 @@ pub fn move_chosen(
     }
     let mut owners1 = [0u8; 65536];
     let mut keeps = [0u16; 65536];
+    let mut skips = [0u16; 65536];
     let mut ranks = [0u16; 65536];
     let mut owners2 = [0u8; 65536];
     let mut runs = [0u16; 65536];
@@ -197,6 +203,7 @@ pub fn move_chosen(
         chosen,
         &mut owners1,
         &mut keeps,
+        &mut skips,
         &mut ranks,
         &mut owners2,
         &mut runs,
@@ -221,11 +228,7 @@ pub fn move_tray(
     ensures { λ _. let L = elementsOf layout1 size1 in let M = elementsOf layout2 size2 in
         ⌜ now (tray2 .exit) ≡ moved L M (window .start .0) (bytesOf window) (now (tray1 .entry)) ⌝ }
 {
-    let chosen = Chosen {
-        only: 0,
-        first: 0,
-        last: layout2.elements,
-    };
+    let chosen = parts::every_pair(layout2.elements);
     move_chosen(layout1, size1, layout2, size2, window, chosen, tray1, tray2);
 }
 
@@ -246,10 +249,6 @@ pub fn move_pair(
     ensures { λ _. let L = elementsOf layout1 size1 in let M = elementsOf layout2 size2 in
         ⌜ now (tray2 .exit) ≡ pairMoved L M (window .start .0) (bytesOf window) (now (tray1 .entry)) i j (now (tray2 .entry)) ⌝ }
 {
-    let chosen = Chosen {
-        only: i + 1,
-        first: j,
-        last: j + 1,
-    };
+    let chosen = parts::one_pair(i, j);
     move_chosen(layout1, size1, layout2, size2, window, chosen, tray1, tray2);
 }

@@ -1,11 +1,12 @@
 // Parts: an element's part of the second tray, filled piece by piece from the first.
 ghost use mathlib.Core.Path.{_≡_};
+ghost use Prim.Native.Nat.{_<_};
 ghost use lib.ListN.{length};
 ghost use Rattle.counting.specs.Trays.{inTray};
 ghost use Rattle.maps.specs.Selected.{belongs, elementsOf};
 ghost use Rattle.moves.specs.Strides.{Strides};
 ghost use Rattle.moves.specs.Walks.{Carries};
-ghost use Rattle.moves.specs.Parts.{bytesOf, elementsBy, Sources, takes, renewed, movedWhere, Chosen·ok, Targets, Trays·ok};
+ghost use Rattle.moves.specs.Parts.{bytesOf, elementsBy, Sources, takes, renewed, movedWhere, everyPair, onePair, Chosen·ok, Targets, Trays·ok};
 use crate::pieces;
 use crate::pieces::Cycle;
 use crate::shares;
@@ -22,7 +23,29 @@ pub struct Chosen {
     pub last: usize,
 }
 
-// Fills a selection's part of the second tray from the first tray with what `only` has.
+// What a move moves: all, to each of so many elements.
+pub fn every_pair(elements: usize) -> Chosen
+    ensures { λ r. ⌜ r ≡ everyPair elements ⌝ }
+{
+    Chosen {
+        only: 0,
+        first: 0,
+        last: elements,
+    }
+}
+
+// What a pair move moves.
+pub fn one_pair(i: usize, j: usize) -> Chosen
+    requires { ⌜ i < 16 ⌝ ∗ ⌜ j < 16 ⌝ }
+    ensures { λ r. ⌜ r ≡ onePair i j ⌝ }
+{
+    let only = i + 1;
+    let first = j;
+    let last = j + 1;
+    Chosen { only, first, last }
+}
+
+// Fills a selection's part of the second tray from the first tray with what `only` has. After a piece of `only` nothing is taken before its next run.
 pub fn fill_part(
     numbers: &[u32],
     s: Selection,
@@ -32,6 +55,7 @@ pub fn fill_part(
     cycle: Cycle,
     owners: &[u8],
     keeps: &[u16],
+    skips: &[u16],
     ranks: &[u16],
     shares: &[u64],
     only: usize,
@@ -39,7 +63,7 @@ pub fn fill_part(
     part: &mut [u8],
 )
     requires { ⌜ Carries s (now numbers) window (length (now tray)) (length (now part)) ⌝ ∗ ⌜ Strides s (belongs s (now numbers)) (now runs) (now hops) ⌝
-        ∗ ⌜ Sources cycle (window .start .0) (bytesOf window) (now owners) (now keeps) (now ranks) (now shares) ⌝ }
+        ∗ ⌜ Sources cycle (window .start .0) (bytesOf window) (now owners) (now keeps) (now skips) (now ranks) (now shares) ⌝ }
     ensures { λ _. let L = elementsBy cycle (now (owners .entry)) in let a = window .start .0 in let n = bytesOf window in
         ⌜ now (part .exit) ≡ renewed (belongs s (now (numbers .entry))) a n (takes L only) (inTray L a n (now (tray .entry))) (now (part .entry)) ⌝ }
 {
@@ -47,12 +71,16 @@ pub fn fill_part(
     let mut walk = walks::begin(numbers, s, window.start);
     while walk.at < n {
         let run = walks::run_here(runs, walk, window);
-        let piece = pieces::piece_at(cycle, owners, keeps, ranks, shares, window, walk.at, run);
-        let len = piece.len;
+        let piece = pieces::piece_at(cycle, owners, keeps, window, walk.at, run);
+        let mut step = piece.len;
         if only == 0 || only == piece.owner {
-            copies::copy_run(tray, piece.source.0 as usize, part, walk.packed, len);
+            let source = pieces::source_of(ranks, shares, piece);
+            copies::copy_run(tray, source.0 as usize, part, walk.packed, piece.len);
+            if only != 0 {
+                step = pieces::beyond(skips, piece, run);
+            }
         }
-        walk = walks::further(hops, s, walk, run, len);
+        walk = walks::further(hops, s, walk, run, step);
     }
 }
 
@@ -68,6 +96,7 @@ pub fn fill_parts(
     cycle: Cycle,
     owners: &[u8],
     keeps: &[u16],
+    skips: &[u16],
     ranks: &[u16],
     shares: &[u64],
     chosen: Chosen,
@@ -75,7 +104,7 @@ pub fn fill_parts(
     tray2: &mut [u8],
 )
     requires { ⌜ Targets layout size window (now numbers) (now runs) (now hops) (now parts) ⌝
-        ∗ ⌜ Sources cycle (window .start .0) (bytesOf window) (now owners) (now keeps) (now ranks) (now shares) ⌝
+        ∗ ⌜ Sources cycle (window .start .0) (bytesOf window) (now owners) (now keeps) (now skips) (now ranks) (now shares) ⌝
         ∗ ⌜ Chosen·ok chosen (cycle .elements) (layout .elements) ⌝ ∗ ⌜ Trays·ok window (length (now tray1)) (length (now tray2)) ⌝ }
     ensures { λ _. let L = elementsBy cycle (now (owners .entry)) in let M = elementsOf layout size in
         ⌜ now (tray2 .exit) ≡ movedWhere L M (window .start .0) (bytesOf window) (now (tray1 .entry)) chosen (now (tray2 .entry)) ⌝ }
@@ -97,6 +126,7 @@ pub fn fill_parts(
             cycle,
             owners,
             keeps,
+            skips,
             ranks,
             shares,
             only,

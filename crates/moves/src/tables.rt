@@ -37,7 +37,7 @@ pub fn fill_tables(
     requires { ⌜ now numbers ≡ rowOf (layout .family) ⌝ ∗ ⌜ Pattern·ok layout size ⌝ ∗ ⌜ RoomFor layout size (now owners) (now runs) (now hops) ⌝ }
     ensures { λ _. ⌜ Tables layout size (now (owners .exit)) (now (runs .exit)) (now (hops .exit)) ⌝ }
 {
-    families::owners(layout, 4, owners);
+    families::owners(numbers, layout, 4, owners);
     let mut nexts = [size as usize; 17];
     put_nexts(numbers, layout, size, &mut nexts);
     ahead::fill_strides(owners, size as usize, &mut nexts, runs, hops);

@@ -60,9 +60,9 @@ pub fn onward(hops: &[u16], s: Selection, walk: Walk, run: usize) -> Walk
     }
 }
 
-// At the next piece, where `len` bytes of the `run` from here on are done: in the run still, or at the next one.
+// `len` bytes further on, where the `run` from here on is longer, and else at the next run.
 pub fn further(hops: &[u16], s: Selection, walk: Walk, run: usize, len: usize) -> Walk
-    requires { ⌜ Onward·ok s (now hops) walk run ⌝ ∗ ⌜ len ≤ run ⌝ ∗ ⌜ run ≤ getD (now hops) (walk .place) 0 + 1 ⌝ }
+    requires { ⌜ Onward·ok s (now hops) walk run ⌝ ∗ ⌜ run ≤ getD (now hops) (walk .place) 0 + 1 ⌝ }
     ensures { λ r. ⌜ r ≡ furthers s (now (hops .entry)) walk run len ⌝ }
 {
     if run <= len {

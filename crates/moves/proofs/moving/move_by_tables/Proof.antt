@@ -1,7 +1,6 @@
 -- `move_by_tables` meets its contract. Assumes nothing.
 use mathlib.Core.Path.{refl}
 use borrow.Author.Needs.{needs}
-use Rattle.moves.proofs.Noting.{room-kept}
 use Rattle.moves.proofs.moving.move_by_tables.Statement.{statement}
 use Rattle.moves.proofs.moving.move_by_tables.Tie as tie
 
@@ -17,8 +16,9 @@ slice-aggregate-put-targets c = search needs
 put-targets-requires : tie.Need-put-targets-requires
 put-targets-requires c κs =
     let sources = c .before .before .before .before .before .before .before .before .before .before .before .before .before in
-    let asked = sources .before .before .before .before .before .before .before .before .before .before .before .before .before .before .before .before .pre in
-    (asked .1 .0, (room-kept _ (sources .put-sources .kept .1 .1 .1 .1 .1 .1 .0) (asked .1 .1 .1 .1 .second), refl))
+    let asking = sources .before in
+    let asked = asking .before .before .before .before .before .before .before .before .before .before .before .before .before .before .before .before .pre in
+    (asked .1 .0, (asked .1 .1 .1 .1 .second, refl))
 
 slice-aggregate-fill-parts : tie.Need-slice-aggregate-fill-parts
 slice-aggregate-fill-parts c = search needs
@@ -28,25 +28,32 @@ slice-aggregate-fill-parts-2 c = search needs
 
 fill-parts-requires : tie.Need-fill-parts-requires
 fill-parts-requires c κs =
-    let targets = c .before .before .before .before .before .before .before .before .before .before .before .before .before .before .before in
+    let targets = c .before .before .before .before .before .before .before .before .before .before .before .before .before .before .before .before in
     let sources = targets .before .before .before .before .before .before .before .before .before .before .before .before .before .before in
-    let asked = sources .before .before .before .before .before .before .before .before .before .before .before .before .before .before .before .before .pre in
+    let asking = sources .before in
+    let asked = asking .before .before .before .before .before .before .before .before .before .before .before .before .before .before .before .before .pre in
     (targets .put-targets .ensures, (sources .put-sources .ensures .0, (asked .1 .1 .0, asked .1 .1 .1 .0)))
 
 same-length : tie.Need-same-length
 same-length c =
-    let filled = c .before .before in
-    let targets = filled .before .before .before .before .before .before .before .before .before .before .before .before .before .before .before .before in
-    targets .before .before .before .before .before .before .before .before .before .before .before .before .before .before .put-sources .kept .1 .1 .1 .1 .0
+    let asking = c .before .before .before in
+    let targets = asking .before .before .before .before .before .before .before .before .before .before .before .before .before .before .before .before in
+    let sources = targets .before .before .before .before .before .before .before .before .before .before .before .before .before .before in
+    sources .put-sources .kept .1 .1 .1 .1 .0
 
 same-length-2 : tie.Need-same-length-2
 same-length-2 c =
-    let filled = c .before .before in
-    let targets = filled .before .before .before .before .before .before .before .before .before .before .before .before .before .before .before .before in
-    targets .before .before .before .before .before .before .before .before .before .before .before .before .before .before .put-sources .kept .1 .1 .1 .1 .1 .0
+    let asking = c .before .before .before in
+    let targets = asking .before .before .before .before .before .before .before .before .before .before .before .before .before .before .before .before in
+    let sources = targets .before .before .before .before .before .before .before .before .before .before .before .before .before .before in
+    sources .put-sources .kept .1 .1 .1 .1 .1 .0
 
 same-length-3 : tie.Need-same-length-3
-same-length-3 c = search needs
+same-length-3 c =
+    let asking = c .before .before .before in
+    let targets = asking .before .before .before .before .before .before .before .before .before .before .before .before .before .before .before .before in
+    let sources = targets .before .before .before .before .before .before .before .before .before .before .before .before .before .before in
+    sources .put-sources .kept .1 .1 .1 .1 .1 .1 .0
 
 same-length-4 : tie.Need-same-length-4
 same-length-4 c = search needs
@@ -60,10 +67,14 @@ same-length-6 c = search needs
 same-length-7 : tie.Need-same-length-7
 same-length-7 c = search needs
 
+same-length-8 : tie.Need-same-length-8
+same-length-8 c = search needs
+
 returns : tie.Need-returns
 returns c =
     let filled = c .before .before in
-    let targets = filled .before .before .before .before .before .before .before .before .before .before .before .before .before .before .before .before in
+    let asking = filled .before in
+    let targets = asking .before .before .before .before .before .before .before .before .before .before .before .before .before .before .before .before in
     let sources = targets .before .before .before .before .before .before .before .before .before .before .before .before .before .before in
     rw (sources .put-sources .ensures .1) at (filled .fill-parts .ensures)
 
@@ -85,4 +96,5 @@ move-by-tables-spec =
     same-length-5
     same-length-6
     same-length-7
+    same-length-8
     returns)

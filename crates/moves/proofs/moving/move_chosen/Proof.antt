@@ -59,15 +59,18 @@ slice-aggregate-move-by-tables-7 c = search needs
 slice-aggregate-move-by-tables-8 : tie.Need-slice-aggregate-move-by-tables-8
 slice-aggregate-move-by-tables-8 c = search needs
 
+slice-aggregate-move-by-tables-9 : tie.Need-slice-aggregate-move-by-tables-9
+slice-aggregate-move-by-tables-9 c = search needs
+
 move-by-tables-requires : tie.Need-move-by-tables-requires
 move-by-tables-requires c κs =
-    let second = c .before .before .before .before .before .before .before .before .before .before in
+    let second = c .before .before .before .before .before .before .before .before .before .before .before in
     let first = second .before .before .before in
     let laid2 = first .before .before .before in
     let laid1 = laid2 .before .before .before in
     let asked = laid1 .before .before .before .before .before .before .pre in
     let fits1 = first .fits-all .ensures (second .before .before .if2 .taken) in
-    let fits2 = second .fits-all2 .ensures (c .before .before .before .before .before .before .before .before .before .if3 .taken) in
+    let fits2 = second .fits-all2 .ensures (c .before .before .before .before .before .before .before .before .before .before .if3 .taken) in
     moves-ask (asked .0) (asked .1 .0) (asked .1 .1 .0) (asked .1 .1 .1) (laid1 .before .before .if1 .left) _ _ (laid1 .lay-out .ensures) (laid2 .lay-out2 .ensures)
     2048 (omega arith) (omega arith) fits1 fits2
 
@@ -76,9 +79,6 @@ same-length c = search needs
 
 returns-2 : tie.Need-returns-2
 returns-2 c = search needs
-
-slice-aggregate-move-by-tables-9 : tie.Need-slice-aggregate-move-by-tables-9
-slice-aggregate-move-by-tables-9 c = search needs
 
 slice-aggregate-move-by-tables-10 : tie.Need-slice-aggregate-move-by-tables-10
 slice-aggregate-move-by-tables-10 c = search needs
@@ -101,9 +101,15 @@ slice-aggregate-move-by-tables-15 c = search needs
 slice-aggregate-move-by-tables-16 : tie.Need-slice-aggregate-move-by-tables-16
 slice-aggregate-move-by-tables-16 c = search needs
 
+slice-aggregate-move-by-tables-17 : tie.Need-slice-aggregate-move-by-tables-17
+slice-aggregate-move-by-tables-17 c = search needs
+
+slice-aggregate-move-by-tables-18 : tie.Need-slice-aggregate-move-by-tables-18
+slice-aggregate-move-by-tables-18 c = search needs
+
 move-by-tables-requires-2 : tie.Need-move-by-tables-requires-2
 move-by-tables-requires-2 c κs =
-    let laid2 = c .before .before .before .before .before .before .before .before .before .before .before .before .before in
+    let laid2 = c .before .before .before .before .before .before .before .before .before .before .before .before .before .before in
     let laid1 = laid2 .before .before .before in
     let asked = laid1 .before .before .before .before .before .before .pre in
     moves-ask (asked .0) (asked .1 .0) (asked .1 .1 .0) (asked .1 .1 .1) (laid1 .before .before .if1 .left) _ _ (laid1 .lay-out .ensures) (laid2 .lay-out2 .ensures)
@@ -136,10 +142,10 @@ move-chosen-spec =
     slice-aggregate-move-by-tables-6
     slice-aggregate-move-by-tables-7
     slice-aggregate-move-by-tables-8
+    slice-aggregate-move-by-tables-9
     move-by-tables-requires
     same-length
     returns-2
-    slice-aggregate-move-by-tables-9
     slice-aggregate-move-by-tables-10
     slice-aggregate-move-by-tables-11
     slice-aggregate-move-by-tables-12
@@ -147,6 +153,8 @@ move-chosen-spec =
     slice-aggregate-move-by-tables-14
     slice-aggregate-move-by-tables-15
     slice-aggregate-move-by-tables-16
+    slice-aggregate-move-by-tables-17
+    slice-aggregate-move-by-tables-18
     move-by-tables-requires-2
     same-length-2
     returns-3)

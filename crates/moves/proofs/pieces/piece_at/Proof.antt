@@ -1,10 +1,12 @@
 -- `piece_at` meets its contract. Assumes nothing.
-use mathlib.Core.Path.{refl}
+use mathlib.Core.Path.{_≡_, refl}
 use mathlib.Core.Logic.{⊎-elim}
-use Prim.Native.Nat.{_+_}
+use Prim.Native.Nat.{_+_, min}
 use native.Mathlib.Omega.{arith}
+use lib.ListN.{getD}
 use borrow.Author.Needs.{needs}
-use Rattle.moves.proofs.Piecing.{placeIn, place-held, owner-some, share-held, passed-near, passed-after, source-near, piece-is}
+use Rattle.moves.specs.Parts.{placeIn}
+use Rattle.moves.proofs.Piecing.{place-held}
 use Rattle.moves.proofs.pieces.piece_at.Statement.{statement}
 use Rattle.moves.proofs.pieces.piece_at.Tie as tie
 
@@ -23,92 +25,44 @@ cast-period c = search needs
 rem-place : tie.Need-rem-place
 rem-place c = search needs
 
-shared-slice-read-owner : tie.Need-shared-slice-read-owner
-shared-slice-read-owner c =
-    let start = c .before .before .before .before .before in
-    place-held (start .pre .0) (start .pre .1 .0) .0
-
-cast-owner : tie.Need-cast-owner
-cast-owner c =
-    let args = c .before .before .before .before .before .args in
-    omega (arith, c .shared-slice-known5 .given (placeIn (args .cycle) (args .window .start .0 + args .at)))
-
-sub-share-at : tie.Need-sub-share-at
-sub-share-at c =
-    let start = c .before .before .before .before .before in
-    owner-some (start .pre .0) (start .pre .1 .0)
-
-share-at-requires : tie.Need-share-at-requires
-share-at-requires c κs =
-    let start = c .before .before .before .before .before in
-    share-held (start .pre .0) (start .pre .1 .0)
-
-div-rank : tie.Need-div-rank
-div-rank c = search needs
-
-mul-rank : tie.Need-mul-rank
-mul-rank c =
-    let start = c .before .before .before .before .before .before in
-    omega (arith, passed-near (start .pre .0) (start .pre .1 .0) _ (c .share-at .ensures) _ refl)
-
 mul-wide : tie.Need-mul-wide
 mul-wide c =
-    let start = c .before .before .before .before .before .before in
-    omega (arith, place-held (start .pre .0) (start .pre .1 .0) .1 .1)
+    let start = c .before .before in
+    omega (arith, place-held (start .args .window .start .0 + start .args .at) (start .pre) .1)
 
 shared-slice-read-wide : tie.Need-shared-slice-read-wide
 shared-slice-read-wide c =
-    let start = c .before .before .before .before .before .before .before in
-    place-held (start .pre .0) (start .pre .1 .0) .1 .1
+    let start = c .before .before .before in
+    place-held (start .args .window .start .0 + start .args .at) (start .pre) .1
 
 wide-requires : tie.Need-wide-requires
 wide-requires c κs = search needs
 
-add-rank : tie.Need-add-rank
-add-rank c =
-    let start = c .before .before .before .before .before .before .before .before in
-    omega (arith, passed-near (start .pre .0) (start .pre .1 .0) _ (c .before .before .share-at .ensures) _ (c .wide .ensures))
-
-mul-wide-2 : tie.Need-mul-wide-2
-mul-wide-2 c =
-    let start = c .before .before .before .before .before .before .before .before in
-    omega (arith, place-held (start .pre .0) (start .pre .1 .0) .1 .0)
-
-shared-slice-read-wide-2 : tie.Need-shared-slice-read-wide-2
-shared-slice-read-wide-2 c =
-    let start = c .before .before .before .before .before .before .before .before .before in
-    place-held (start .pre .0) (start .pre .1 .0) .1 .0
-
-wide-requires-2 : tie.Need-wide-requires-2
-wide-requires-2 c κs = search needs
-
 add-keep : tie.Need-add-keep
 add-keep c =
-    let args = c .before .before .before .before .before .before .before .before .before .before .args in
-    omega (arith, c .wide2 .ensures, c .before .shared-slice-known7 .given (placeIn (args .cycle) (args .window .start .0 + args .at)))
+    let args = c .before .before .before .before .args in
+    omega (arith, c .wide .ensures, c .before .shared-slice-known3 .given (placeIn (args .cycle) (args .window .start .0 + args .at)))
 
-sub-t57 : tie.Need-sub-t57
-sub-t57 c =
-    let read = c .before .before .before in
-    let start = read .before .before .before .before .before .before .before .before in
-    passed-after (start .pre .0) (start .pre .1 .0) _ (read .before .before .share-at .ensures) _ (read .wide .ensures)
+shared-slice-read-t29 : tie.Need-shared-slice-read-t29
+shared-slice-read-t29 c =
+    let start = c .before .before .before .before .before in
+    place-held (start .args .window .start .0 + start .args .at) (start .pre) .0
 
-add-t58 : tie.Need-add-t58
-add-t58 c =
-    let read = c .before .before .before in
-    let start = read .before .before .before .before .before .before .before .before in
-    omega (arith, source-near (start .pre .0) (start .pre .1 .0) _ (read .before .before .share-at .ensures) _ (read .wide .ensures))
+cast-t30 : tie.Need-cast-t30
+cast-t30 c =
+    let args = c .before .before .before .before .before .args in
+    omega (arith, c .shared-slice-known4 .given (placeIn (args .cycle) (args .window .start .0 + args .at)))
+
+div-t39 : tie.Need-div-t39
+div-t39 c = search needs
 
 returns : tie.Need-returns
 returns c =
-    let read = c .before .before .before in
-    let start = read .before .before .before .before .before .before .before .before in
-    let keep = c .before .wide2 .ensures in
-    piece-is (start .pre .0) (start .pre .1 .0) _ (read .before .before .share-at .ensures) _ (read .wide .ensures) _ _
-    (⊎-elim
-    (λ w. (omega (arith, start .pre .1 .1 .0), (omega arith, omega arith)))
-    (λ w. (omega arith, (omega arith, omega arith)))
-    (c .if1 .came))
+    let keep = c .before .before .wide .ensures in
+    let args = c .before .before .before .before .before .before .args in
+    let len : c .if1 .t35 ≡ min (args .run) (getD (args .keeps .now) (placeIn (args .cycle) (args .window .start .0 + args .at)) 0 + 1) =
+    ⊎-elim (λ w. omega arith) (λ w. omega arith) (c .if1 .came) in
+    rw len refl
 
 pub piece-at-spec : {M : Type 1} → statement M
 piece-at-spec =
@@ -119,20 +73,11 @@ piece-at-spec =
     sub-past
     cast-period
     rem-place
-    shared-slice-read-owner
-    cast-owner
-    sub-share-at
-    share-at-requires
-    div-rank
-    mul-rank
     mul-wide
     shared-slice-read-wide
     wide-requires
-    add-rank
-    mul-wide-2
-    shared-slice-read-wide-2
-    wide-requires-2
     add-keep
-    sub-t57
-    add-t58
+    shared-slice-read-t29
+    cast-t30
+    div-t39
     returns)

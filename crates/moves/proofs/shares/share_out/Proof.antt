@@ -3,7 +3,8 @@ use Prim.Native.Nat.{_+_, _-_, _*_}
 use native.Mathlib.Omega.{arith}
 use Rattle.maps.specs.Selected.{elementsOf}
 use Rattle.moves.specs.Parts.{bytesOf}
-use Rattle.moves.proofs.Layouts.{elements-length, selection-there}
+use Rattle.moves.proofs.Layouts.{elements-length}
+use Rattle.moves.proofs.Choosing.{chosen-ok}
 use Rattle.moves.proofs.Allotting.{Allotted, allotted-none, allotted-all, allotting-held, allotting-part, allotting-fits, allotting-next}
 use Rattle.moves.proofs.shares.share_out.Statement.{statement}
 use Rattle.moves.proofs.shares.share_out.Tie as tie
@@ -27,7 +28,7 @@ selection-of-requires c κs = let asked = c .before .before .before .before .pre
 share-of-requires : tie.Need-share-of-requires Inv-loop μ-loop
 share-of-requires c κs =
     let asked = c .before .before .before .before .before .pre in
-    (selection-there _ _ _ (asked .0) _ (c .before .loop-test .taken) _ (c .selection-of .ensures) (asked .1 .0), asked .1 .1 .0)
+    (chosen-ok (asked .1 .0) (asked .0) (c .before .loop-test .taken) (c .selection-of .ensures), asked .1 .1 .0)
 
 mul-from : tie.Need-mul-from Inv-loop μ-loop
 mul-from c = omega (arith, c .before .before .before .before .before .before .pre .1 .0 .ok .room)
