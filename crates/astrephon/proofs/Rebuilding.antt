@@ -1,10 +1,9 @@
 -- GATHER AND SCATTER AGREE WITH THE TRAY: it is the gathers in element order, and every element scattered rebuilds the file buffer. Assumes nothing.
 use mathlib.Core.Path.{_≡_, refl, sym, ap, ap₂, _∙_}
-use mathlib.Core.Bool.{Bool, false}
+use mathlib.Core.Bool.{Bool}
 use mathlib.Core.List.{List, [], _∷_, _++_, foldl, flatMap, List·Memᴰ}
 use mathlib.Core.Logic.{⊎-elim}
 use Prim.Native.Nat.{ℕ, zero, suc, _+_, _-_, _≤_, _<_}
-use native.Mathlib.Nat.{zero-add}
 use native.Mathlib.Omega.{arith}
 use lib.ListN.{length}
 use Rattle.counting.specs.Count.{countBelow, countIn}
@@ -13,7 +12,8 @@ use Rattle.counting.specs.Elements.{Elements, element}
 use Rattle.counting.specs.Trays.{tray, scatteredAll}
 use Rattle.counting.proofs.Cases.{lt-or-le}
 use Rattle.counting.proofs.Counts.{count-window}
-use Rattle.counting.proofs.Gathers.{tabulated-ext, tabulated-whole, getD-tabulated, length-gathered}
+use Rattle.counting.proofs.Gathers.{tabulated-ext, tabulated-whole, length-gathered}
+use Rattle.counting.proofs.Elements.{element-tabulated}
 use Rattle.counting.proofs.Scatters.{length-scattered, scattered-all}
 use Rattle.sheets.specs.declared.Reading.{Reading}
 use Rattle.sheets.specs.Sheet.{readSheet}
@@ -51,9 +51,6 @@ module _ {xs : List ℕ} {a b : ℕ} (X : Takes xs a) (W : Window·ok a b) (pack
   tray-gathers = gathers-from 0 (r .layout .elements) (omega arith)
 
   -- ---- what a scatter of what was gathered leaves. Where the element is none, nothing is written
-  element-is : (e : ℕ) → e < r .layout .elements → element (layoutOf r) e ≡ offsetsOf r e
-  element-is e h = getD-tabulated 0 (r .layout .elements) (offsetsOf r) e (λ _. false) h ∙ ap (offsetsOf r) (zero-add e)
-
   packed-long : (e : ℕ) → length (gathered (offsetsOf r e) a (b - a) f) ≡ packedLength r e a b
   packed-long e = omega (arith, length-gathered (offsetsOf r e) a (b - a) f, count-window (offsetsOf r e) a b (W .forward))
 
@@ -67,7 +64,7 @@ module _ {xs : List ℕ} {a b : ℕ} (X : Takes xs a) (W : Window·ok a b) (pack
       let packed = gathered (offsetsOf r e) a (b - a) f in
       ap (λ (u : List ℕ). scatteredCall xs e a b u v .later) (gather-leaves e there)
       ∙ ap laterOf (sym (scatter-does W X e there packed v l (packed-long e)))
-      ∙ ap (λ (p : ℕ → Bool). scattered p a (b - a) (gathered p a (b - a) f) v) (sym (element-is e there)))
+      ∙ ap (λ (p : ℕ → Bool). scattered p a (b - a) (gathered p a (b - a) f) v) (sym (element-tabulated (offsetsOf r) (r .layout .elements) e there)))
       (λ past.
       ap laterOf (sym (scatter-stays W X e past _ v))
       ∙ sym (tabulated-whole a (b - a) v l)

@@ -1,4 +1,7 @@
 -- `inverse` meets its contract. Assumes nothing.
+use mathlib.Core.Path.{ap, _∙_}
+use Rattle.astrephon.specs.Maps.{inverseCall}
+use Rattle.answers.specs.Replies.{ofLocated}
 use borrow.Author.Needs.{needs}
 use Rattle.answers.proofs.calls.inverse.Statement.{statement}
 use Rattle.answers.proofs.calls.inverse.Tie as tie
@@ -19,7 +22,12 @@ of-located-requires : tie.Need-of-located-requires
 of-located-requires c κs = search needs
 
 returns : tie.Need-returns
-returns c = cc
+returns c =
+    let called = c .before in
+    let sheet = called .before in
+    let a = sheet .before in
+    let i = a .before in
+    c .of-located .ensures ∙ ap ofLocated (called .inverse .ensures ∙ (λ t. inverseCall (sheet .sheet1 .ensures t) (i .number-at .ensures t) (a .number-at2 .ensures t)))
 
 pub inverse-spec : {M : Type 1} → statement M
 inverse-spec =

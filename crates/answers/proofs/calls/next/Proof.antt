@@ -1,4 +1,7 @@
 -- `next` meets its contract. Assumes nothing.
+use mathlib.Core.Path.{ap, _∙_}
+use Rattle.astrephon.specs.Maps.{nextCall}
+use Rattle.answers.specs.Replies.{ofMapped}
 use borrow.Author.Needs.{needs}
 use Rattle.answers.proofs.calls.next.Statement.{statement}
 use Rattle.answers.proofs.calls.next.Tie as tie
@@ -19,7 +22,12 @@ of-mapped-requires : tie.Need-of-mapped-requires
 of-mapped-requires c κs = search needs
 
 returns : tie.Need-returns
-returns c = cc
+returns c =
+    let called = c .before in
+    let sheet = called .before in
+    let a = sheet .before in
+    let i = a .before in
+    c .of-mapped .ensures ∙ ap ofMapped (called .next .ensures ∙ (λ t. nextCall (sheet .sheet1 .ensures t) (i .number-at .ensures t) (a .number-at2 .ensures t)))
 
 pub next-spec : {M : Type 1} → statement M
 next-spec =

@@ -1,4 +1,7 @@
 -- `span` meets its contract. Assumes nothing.
+use mathlib.Core.Path.{ap, _∙_}
+use Rattle.astrephon.specs.Maps.{spanCall}
+use Rattle.answers.specs.Replies.{ofSpanned}
 use borrow.Author.Needs.{needs}
 use Rattle.answers.proofs.calls.span.Statement.{statement}
 use Rattle.answers.proofs.calls.span.Tie as tie
@@ -22,7 +25,14 @@ of-spanned-requires : tie.Need-of-spanned-requires
 of-spanned-requires c κs = search needs
 
 returns : tie.Need-returns
-returns c = cc
+returns c =
+    let called = c .before in
+    let sheet = called .before in
+    let z = sheet .before in
+    let a = z .before in
+    let i = a .before in
+    c .of-spanned .ensures
+    ∙ ap ofSpanned (called .span .ensures ∙ (λ t. spanCall (sheet .sheet1 .ensures t) (i .number-at .ensures t) (a .number-at2 .ensures t) (z .number-at3 .ensures t)))
 
 pub span-spec : {M : Type 1} → statement M
 span-spec =
