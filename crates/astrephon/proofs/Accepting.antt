@@ -17,14 +17,18 @@ use Rattle.astrephon.specs.Refusals.{ELEMENT, callRefusal, Outcome, stay
 use Rattle.astrephon.specs.Offsets.{LIMIT, offsetsOf, elementTest}
 use Rattle.astrephon.specs.Carries.{packedLength, unlessWindow, gatheredOf, scatteredOf, gatheredCall, scatteredCall}
 use Rattle.astrephon.specs.Moves.{layoutOf, trayTests, movedOf, pairMovedOf, movedCall, pairMovedCall}
-use Rattle.astrephon.specs.Sequences.{Takes, Window·ok}
+use Rattle.astrephon.specs.Sequences.{Takes, Forward}
 use Rattle.astrephon.proofs.Orders.{row-there, sheet-passed, fault-refused, fault-passed}
 use Rattle.astrephon.proofs.Opens.{element-on}
 use Rattle.astrephon.proofs.PairOpens.{pair-on}
 use Rattle.astrephon.proofs.Faults.{range-fine, buffer-fine, trays-buffers}
 use Rattle.astrephon.proofs.BothSheets.{sheets-passed}
 
-module _ {a b : ℕ} (W : Window·ok a b) where
+-- what a call's buffer holds afterwards
+abbrev pub laterOf : Outcome Carried → List ℕ
+laterOf o = o .later
+
+module _ {a b : ℕ} (W : Forward a b) where
   -- ---- gather and scatter
   module _ {xs : List ℕ} (X : Takes xs a) (e : ℕ) where
     abbrev r : Reading

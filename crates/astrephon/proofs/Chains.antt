@@ -3,7 +3,7 @@ use mathlib.Core.Path.{_≡_, refl, sym, ap, _∙_}
 use mathlib.Core.Bool.{Bool, true, false, _&&_}
 use mathlib.Core.List.{List, [], _∷_, _++_, foldl, List·Memᴰ}
 use mathlib.Core.Logic.{⊎-elim}
-use Prim.Native.Nat.{ℕ, _-_, _≤_, _<_}
+use Prim.Native.Nat.{ℕ, _-_, _<_}
 use native.Mathlib.Omega.{arith}
 use lib.ListN.{length}
 use Rattle.counting.specs.Elements.{Elements, element}
@@ -12,22 +12,17 @@ use Rattle.counting.proofs.Cases.{lt-or-le}
 use Rattle.counting.proofs.Trays.{tray-ext, tray-at, tray-of}
 use Rattle.counting.proofs.Moves.{length-moved, moved-moved, length-pair, pairs-move}
 use Rattle.sheets.specs.Sheet.{readSheet}
-use Rattle.astrephon.specs.declared.Carried.{Carried}
-use Rattle.astrephon.specs.Refusals.{Outcome}
 use Rattle.astrephon.specs.Moves.{layoutOf, movedCall, pairMovedCall}
-use Rattle.astrephon.specs.Sequences.{Takes, Window·ok, Stop, AllTake, chained, paired}
+use Rattle.astrephon.specs.Sequences.{Takes, Forward, Stop, AllTake, chained, paired}
 use Rattle.astrephon.proofs.Faults.{pair-first, pair-second}
-use Rattle.astrephon.proofs.Accepting.{move-does, pair-does, pair-stays}
+use Rattle.astrephon.proofs.Accepting.{laterOf, move-does, pair-does, pair-stays}
 use Rattle.astrephon.proofs.Trays.{layout-length, past-none, shared-out}
-
-abbrev laterOf : Outcome Carried → List ℕ
-laterOf o = o .later
 
 none-right : (s : Bool) {t : Bool} → t ≡ false → (s && t) ≡ false
 none-right true e = e
 none-right false e = refl
 
-module _ {a b : ℕ} (W : Window·ok a b) where
+module _ {a b : ℕ} (W : Forward a b) where
   -- what a move leaves
   move-leaves : {xs ys : List ℕ} (X : Takes xs a) (Y : Takes ys a) (t held : List ℕ) → length t ≡ b - a → length held ≡ b - a
       → movedCall xs ys a b t held .later ≡ moved (layoutOf (readSheet xs)) (layoutOf (readSheet ys)) a (b - a) t

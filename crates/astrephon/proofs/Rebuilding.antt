@@ -6,9 +6,8 @@ use mathlib.Core.Logic.{⊎-elim}
 use Prim.Native.Nat.{ℕ, zero, suc, _+_, _-_, _≤_, _<_}
 use native.Mathlib.Omega.{arith}
 use lib.ListN.{length}
-use Rattle.counting.specs.Count.{countBelow, countIn}
 use Rattle.counting.specs.Gather.{inFile, gathered, scattered, tabulated}
-use Rattle.counting.specs.Elements.{Elements, element}
+use Rattle.counting.specs.Elements.{element}
 use Rattle.counting.specs.Trays.{tray, scatteredAll}
 use Rattle.counting.proofs.Cases.{lt-or-le}
 use Rattle.counting.proofs.Counts.{count-window}
@@ -17,19 +16,14 @@ use Rattle.counting.proofs.Elements.{element-tabulated}
 use Rattle.counting.proofs.Scatters.{length-scattered, scattered-all}
 use Rattle.sheets.specs.declared.Reading.{Reading}
 use Rattle.sheets.specs.Sheet.{readSheet}
-use Rattle.astrephon.specs.declared.Carried.{Carried}
-use Rattle.astrephon.specs.Refusals.{Outcome}
 use Rattle.astrephon.specs.Offsets.{offsetsOf}
 use Rattle.astrephon.specs.Carries.{packedLength, gatheredCall, scatteredCall}
 use Rattle.astrephon.specs.Moves.{layoutOf}
-use Rattle.astrephon.specs.Sequences.{Takes, Window·ok, scatters, Packs}
-use Rattle.astrephon.proofs.Accepting.{gather-does, scatter-does, scatter-stays}
+use Rattle.astrephon.specs.Sequences.{Takes, Forward, scatters, Packs}
+use Rattle.astrephon.proofs.Accepting.{laterOf, gather-does, scatter-does, scatter-stays}
 use Rattle.astrephon.proofs.Trays.{layout-length, past-none, shared-out}
 
-abbrev laterOf : Outcome Carried → List ℕ
-laterOf o = o .later
-
-module _ {xs : List ℕ} {a b : ℕ} (X : Takes xs a) (W : Window·ok a b) (packs : ℕ → List ℕ) (long : Packs xs packs a b) (file : List ℕ) (whole : length file ≡ b - a) where
+module _ {xs : List ℕ} {a b : ℕ} (X : Takes xs a) (W : Forward a b) (packs : ℕ → List ℕ) (long : Packs xs packs a b) (file : List ℕ) (whole : length file ≡ b - a) where
   abbrev r : Reading
   r = readSheet xs
 

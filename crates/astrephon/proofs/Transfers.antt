@@ -9,7 +9,7 @@ use lib.ListN.{length}
 use borrow.Author.Tests.{leb-false}
 use Rattle.counting.specs.Count.{countBelow}
 use Rattle.counting.specs.Gather.{inFile, gathered, scattered}
-use Rattle.counting.proofs.Counts.{count-mono, count-window}
+use Rattle.counting.proofs.Counts.{count-window}
 use Rattle.families.specs.Decoded.{rowOf}
 use Rattle.sheets.specs.declared.Reading.{Reading}
 use Rattle.sheets.specs.Refusals.{Test, firstFault}

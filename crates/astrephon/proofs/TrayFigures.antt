@@ -1,15 +1,14 @@
 -- 01's figures on trays: those of layouts A and B, of bytes equal to their offsets, and the moves between them. Assumes nothing.
 use mathlib.Core.Path.{_≡_, refl, sym, ap, ap₂, _∙_}
-use mathlib.Core.Bool.{Bool}
 use mathlib.Core.List.{List, [], _∷_}
 use Prim.Native.Nat.{ℕ, _-_, _≤_}
 use native.Mathlib.Omega.{arith}
 use lib.ListN.{length}
-use Rattle.counting.specs.Count.{countBelow, countIn}
+use Rattle.counting.specs.Count.{countBelow}
 use Rattle.counting.specs.Periodic.{owns}
-use Rattle.counting.specs.Gather.{tabulated, gathered}
+use Rattle.counting.specs.Gather.{tabulated}
 use Rattle.counting.specs.Elements.{Elements}
-use Rattle.counting.specs.Trays.{tray, trayPlace, moved}
+use Rattle.counting.specs.Trays.{moved}
 use Rattle.families.specs.Forest.{Forest, nil, node, anyBelow, inSegments, has, endOf, sizeOf}
 use Rattle.families.specs.Decoded.{siblings, forestAt}
 use Rattle.families.specs.Flat.{width, total, flat, totals, flats, elementsAt, layoutOf}
@@ -20,7 +19,7 @@ use Rattle.astrephon.specs.declared.Carried.the-variants.{Done}
 use Rattle.astrephon.specs.Offsets.{LIMIT, offsetsOf}
 use Rattle.astrephon.specs.Moves.{movedCall}
 use Rattle.astrephon.specs.Moves as calls
-use Rattle.astrephon.specs.Sequences.{Takes, Window·ok}
+use Rattle.astrephon.specs.Sequences.{Takes, Forward}
 use Rattle.astrephon.proofs.Accepting.{move-does}
 use Rattle.astrephon.proofs.Samples.{only, elementsA, elementsB, sheetA, sheetB, readings, no-fault-read}
 
@@ -47,7 +46,7 @@ takes : (xs : List ℕ) (Fs : List Forest) → readSheet xs ≡ accepted 0 Fs �
 takes xs Fs read a = record { fine = ap (λ (r : Reading). r .number) read ∙ no-fault-read Fs; after = rw read (from-zero Fs a) }
 
 module _ (a b : ℕ) (forward : a ≤ b) (near : b ≤ LIMIT) (t held : List ℕ) (one : length t ≡ b - a) (two : length held ≡ b - a) where
-  fits : Window·ok a b
+  fits : Forward a b
   fits = record { forward = forward; near = near }
 
   pub A-to-B : movedCall sheetA sheetB a b t held ≡ record { answer = Done; later = moved layoutA layoutB a (b - a) t }

@@ -1,25 +1,24 @@
 -- The calls between trays, case by case: both sheets were opened, then the indexes of a pair, the window and the trays are checked. Assumes nothing.
 use mathlib.Core.Path.{_≡_, refl, sym, ap, ap₂, _∙_}
 use mathlib.Core.List.{List, [], _∷_, _++_}
-use Prim.Native.Nat.{ℕ, _-_, _≤_, _<_, max}
+use Prim.Native.Nat.{ℕ, _-_, _≤_, max}
 use native.Mathlib.Omega.{arith}
 use lib.ListN.{length}
 use Rattle.counting.specs.Elements.{Elements}
 use Rattle.counting.specs.Trays.{moved, pairMoved}
-use Rattle.families.specs.declared.Layout.{Layout}
 use Rattle.sheets.specs.declared.Reading.{Reading}
-use Rattle.sheets.specs.Refusals.{Test, _when_, firstFault}
+use Rattle.sheets.specs.Refusals.{firstFault}
 use Rattle.sheets.specs.Sheet.{readSheet}
 use Rattle.sheets.proofs.Accepted.{accepted-law}
 use Rattle.maps.specs.declared.Window.{Window}
 use Rattle.maps.specs.Selected.{elementsOf}
 use Rattle.maps.proofs.Chosen.{accepted-pattern}
-use Rattle.moves.specs.Parts.{bytesOf, Lengths, Starts}
+use Rattle.moves.specs.Parts.{Lengths, Starts}
 use Rattle.astrephon.specs.declared.Refusal.{Refusal}
 use Rattle.astrephon.specs.declared.Carried.{Carried}
 use Rattle.astrephon.specs.declared.Carried.the-variants.{Done, Refused}
 use Rattle.astrephon.specs.declared.opened.Sheets.{Sheets}
-use Rattle.astrephon.specs.Refusals.{callRefusal, unlessSheets, unlessFault, Outcome, stays}
+use Rattle.astrephon.specs.Refusals.{callRefusal, unlessSheets, Outcome, stays}
 use Rattle.astrephon.specs.Offsets.{LIMIT, offsetsOf, elementTest, windowTests}
 use Rattle.astrephon.specs.Carries.{bufferTests}
 use Rattle.astrephon.specs.Openings.{sheetsOf}

@@ -1,12 +1,11 @@
 -- THE TRAY OF AN ACCEPTED SHEET is its window in another order: every place holds exactly one offset's byte. Assumes nothing.
 use mathlib.Core.Bool.{Bool, false}
-use mathlib.Core.Path.{_≡_, refl, sym, ap, _∙_}
-use mathlib.Core.List.{List, [], _∷_, map}
+use mathlib.Core.Path.{_≡_, sym, ap, _∙_}
+use mathlib.Core.List.{List, map}
 use Prim.Native.Nat.{ℕ, _+_, _≤_, _<_}
 use native.Mathlib.Omega.{arith}
 use lib.ListN.{length, List·getD-eq-default}
 use Rattle.counting.specs.Periodic.{owns}
-use Rattle.counting.specs.Gather.{tabulated}
 use Rattle.counting.specs.Elements.{Elements, element, times, Partition}
 use Rattle.counting.specs.Trays.{tray, trayPlace, inTray}
 use Rattle.counting.proofs.Gathers.{length-tabulated, tabulated-map}

@@ -1,5 +1,5 @@
 -- THE CALLS between the trays of two sheets: `move_tray` and `move_pair`. Assumes nothing: these are definitions.
-use mathlib.Core.List.{List, [], _∷_, _++_}
+use mathlib.Core.List.{List, _++_}
 use Prim.Native.Nat.{ℕ, _-_, max}
 use lib.ListN.{length}
 use Rattle.counting.specs.Gather.{tabulated}

@@ -13,7 +13,7 @@ pub record Takes (xs : List ℕ) (a : ℕ) : Type 0 where
   pub fine : readSheet xs .number ≡ 0
   pub after : readSheet xs .layout .displacement ≤ a
 
-pub record Window·ok (a b : ℕ) : Type 0 where
+pub record Forward (a b : ℕ) : Type 0 where
   pub forward : a ≤ b
   pub near : b ≤ LIMIT
 

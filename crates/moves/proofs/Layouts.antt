@@ -2,14 +2,13 @@
 use mathlib.Core.Path.{_≡_, refl, sym, ap, _∙_, subst}
 use mathlib.Core.Bool.{Bool}
 use mathlib.Core.List.{List}
-use Prim.Native.Nat.{ℕ, zero, suc, _-_, _%_, _≤_, _<_}
-use native.Mathlib.Nat.{zero-add, mod-lt, mod-eq-of-lt}
+use Prim.Native.Nat.{ℕ, suc, _-_, _%_, _≤_, _<_}
+use native.Mathlib.Nat.{mod-lt}
 use native.Mathlib.Omega.{arith}
 use lib.ListN.{length, getD}
-use borrow.Author.Tests.{le-leb, eq-eqb}
-use Rattle.counting.specs.Count.{countBelow, countIn}
+use borrow.Author.Tests.{eq-eqb}
+use Rattle.counting.specs.Count.{countIn}
 use Rattle.counting.specs.Periodic.{owns}
-use Rattle.counting.specs.Gather.{tabulated}
 use Rattle.counting.specs.Elements.{Elements, element, times, Partition}
 use Rattle.counting.proofs.Gathers.{length-tabulated, tabulated-map}
 use Rattle.counting.proofs.Periods.{period-count}
@@ -18,7 +17,7 @@ use Rattle.families.specs.declared.Layout.{Layout}
 use Rattle.families.specs.Forest.{has}
 use Rattle.families.specs.Decoded.{treeOf, selections, rowOf}
 use Rattle.maps.specs.declared.Selection.{Selection}
-use Rattle.maps.specs.Selected.{familiesOf, belongs, Selection·ok, selectionOf, elementsOf, Pattern·ok}
+use Rattle.maps.specs.Selected.{familiesOf, belongs, selectionOf, elementsOf, Pattern·ok}
 use Rattle.maps.proofs.Chosen.{belongs-tree}
 use Rattle.moves.specs.Strides.{AheadBy, around, Strides}
 use Rattle.moves.specs.Tables.{heldBy, tabled, Tables}

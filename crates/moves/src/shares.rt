@@ -1,7 +1,7 @@
 // Shares: what each element has of a window, four numbers an element in one row that can be lent.
 ghost use mathlib.Core.Path.{_≡_};
 ghost use mathlib.Core.List.{[], _∷_};
-ghost use Prim.Native.Nat.{_+_, _*_, _-_, _≤_, _<_, _^_};
+ghost use Prim.Native.Nat.{_+_, _*_, _-_, _≤_, _<_};
 ghost use lib.ListN.{length};
 ghost use Rattle.counting.specs.Count.{countBelow};
 ghost use Rattle.families.specs.Decoded.{rowOf};

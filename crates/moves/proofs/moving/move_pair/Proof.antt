@@ -1,5 +1,4 @@
 -- `move_pair` meets its contract. Assumes nothing.
-use native.Mathlib.Omega.{arith}
 use Rattle.moves.proofs.Noting.{pair-chosen, moved-pair}
 use borrow.Author.Needs.{needs}
 use Rattle.moves.proofs.moving.move_pair.Statement.{statement}
