@@ -13,7 +13,7 @@ use Rattle.sheets.proofs.Accepted.{accepted-law}
 use Rattle.maps.specs.declared.Window.{Window}
 use Rattle.maps.specs.Selected.{elementsOf}
 use Rattle.maps.proofs.Chosen.{accepted-pattern}
-use Rattle.moves.specs.Parts.{Lengths, Starts}
+use Rattle.trays.specs.Parts.{Lengths, Starts}
 use Rattle.astrephon.specs.declared.Refusal.{Refusal}
 use Rattle.astrephon.specs.declared.Carried.{Carried}
 use Rattle.astrephon.specs.declared.Carried.the-variants.{Done, Refused}

@@ -33,7 +33,7 @@ pub fn move_tray(
         return Carried::Refused(opened::refusal(fault, 0));
     }
     let window = Window { start: a, end: b };
-    moves::move_tray(one, both.one.size, two, both.two.size, window, tray1, tray2);
+    trays::move_tray(one, both.one.size, two, both.two.size, window, tray1, tray2);
     Carried::Done
 }
 
@@ -68,7 +68,7 @@ pub fn move_pair(
         return Carried::Refused(opened::refusal(fault, 0));
     }
     let window = Window { start: a, end: b };
-    moves::move_pair(
+    trays::move_pair(
         one,
         both.one.size,
         two,

@@ -10,7 +10,7 @@ use lib.Seq.{getD-set-same, getD-set-other}
 use borrow.Author.Tests.{eqb-true, eq-eqb, ne-eqb}
 use Rattle.counting.proofs.Cases.{same-or-not}
 use Rattle.moves.specs.Strides.{Ahead, AheadBy, around, Room}
-use Rattle.moves.specs.Tables.{heldBy, Nexts, AllFilled}
+use Rattle.moves.specs.Owning.{heldBy, Nexts, AllFilled}
 use Rattle.moves.proofs.Facing.{Facing, facing-start, facing-turn, facing-wider, facing-longer, facing-near, facing-ahead}
 
 -- owner o faces a run from u on and then its place in `nexts`; at first that is one of the next period

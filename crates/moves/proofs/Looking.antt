@@ -18,7 +18,7 @@ use Rattle.maps.proofs.Mapped.{period-some}
 use Rattle.runs.specs.Walking.{marked, tabled, FitsTable, Marks}
 use Rattle.runs.proofs.Marked.{marksOf, table-ok, table-is}
 use Rattle.moves.specs.Strides.{Ahead, AheadBy, around, First, Filled, Strides}
-use Rattle.moves.specs.Tables.{heldBy, Nexts, AllFilled}
+use Rattle.moves.specs.Owning.{heldBy, Nexts, AllFilled}
 use Rattle.moves.proofs.Beginnings.{none-between}
 
 -- what lies ahead of x in p lies ahead of u in g, where the two agree from there on

@@ -1,4 +1,3 @@
 pub mod Strides
+pub mod Owning
 pub mod Walks
-pub mod Tables
-pub mod Parts

@@ -1,7 +1,7 @@
 // Two tables by place in a period: how long the run of its owner from there on is, and how far the owner's next run after it.
 ghost use Rattle.maps.specs.Selected.{belongs, Selection·ok};
 ghost use Rattle.moves.specs.Strides.{Room, Blank, Strides};
-ghost use Rattle.moves.specs.Tables.{Nexts, AllFilled};
+ghost use Rattle.moves.specs.Owning.{Nexts, AllFilled};
 use families::SubfileOffset;
 use maps::Selection;
 
