@@ -14,9 +14,9 @@ use Rattle.families.specs.declared.Layout.{Layout}
 use Rattle.families.specs.Forest.{Forest, nil, node, has, sizeOf, WF, Sound}
 use Rattle.families.specs.Decoded.{noFamily, noElement, familyIn, siblings, forestAt, elementOf, treeOf, treesOf, selections, Layout·ok, rowOf, familyAt}
 use Rattle.families.specs.Flat.{All, width, total, depth, flat, totals, flats, elementsAt, layoutOf}
-use Rattle.families.proofs.Forests.{wf-wider, size-le}
+use Rattle.families.proofs.Forests.{wf-wider, size-le, size-some}
 use Rattle.families.proofs.Rows.{row-element}
-use Rattle.families.proofs.Steps.{none-left}
+use Rattle.families.proofs.Steps.{none-left, step}
 
 -- ---- how long the lists are
 pub length-flat : (F : Forest) → length (flat F) ≡ total F
@@ -98,6 +98,24 @@ unfolding treesOf layoutOf
 trees-back levels d Fs s =
     trees-from Fs levels (layoutOf d Fs) 0 0 [] (replicate (16 - length Fs) noElement) [] (replicate (256 - totals Fs) noFamily) refl refl refl refl s
 
+-- ---- element e of a layout: its tree is the e-th, and its span counts the families of all levels there
+tree-at : (levels : ℕ) (t : Layout) (e : ℕ) → e < t .elements → getD (treesOf levels t) e nil ≡ treeOf levels t e
+unfolding treesOf
+tree-at levels t e h = getD-tabulated 0 (t .elements) (treeOf levels t) e nil h ∙ rw zero-add refl
+
+span-at : (Fs : List Forest) (i e : ℕ) (post : List Element) → e < length Fs → getD (elementsAt i Fs ++ post) e noElement .span ≡ total (getD Fs e nil)
+unfolding elementsAt
+span-at [] i e post h = absurd (omega arith)
+span-at (F ∷ Fs) i zero post h = refl
+span-at (F ∷ Fs) i (suc e) post h = span-at Fs (i + total F) e post (omega arith)
+
+pub element-span : (levels d : ℕ) (Fs : List Forest) → Shallow levels Fs → (e : ℕ) → e < length Fs
+    → elementOf (layoutOf d Fs) e .span ≡ total (treeOf levels (layoutOf d Fs) e)
+unfolding layoutOf
+element-span levels d Fs s e h =
+    span-at Fs 0 e (replicate (16 - length Fs) noElement) h ∙ ap (λ (Gs : List Forest). total (getD Gs e nil)) (sym (trees-back levels d Fs s))
+    ∙ ap total (tree-at levels (layoutOf d Fs) e h)
+
 -- ---- what a layout selects is what its trees select
 pub selections-trees : (levels : ℕ) (t : Layout) → selections levels t ≡ map has (treesOf levels t)
 unfolding selections treesOf
@@ -117,6 +135,12 @@ unfolding width
 tops-some levels look i zero h = absurd (omega (arith, rw (none-left levels look i 0 refl) at h))
 tops-some levels look i (suc k) h = omega arith
 
+-- ---- an element selects some offset
+pub element-some : (levels bound : ℕ) (t : Layout) → Layout·ok levels bound t → (e : ℕ) → e < t .elements → 1 ≤ sizeOf (treeOf levels t e)
+element-some levels bound t ok e h =
+    let S = step levels (familyIn (t .family)) (elementOf t e .first) (elementOf t e .tops) bound _ (ok .some e h) (ok .ruled e h) refl in
+    rw (S .is) (size-some 0 bound _ _ _ _ _ _ (S .ok))
+
 -- ---- what `size` is asked of an element's families in a row, and what it answers
 module _ (levels bound : ℕ) (t : Layout) (ok : Layout·ok levels bound t) (e : ℕ) (h : e < t .elements) (numbers : List ℕ) (row : numbers ≡ rowOf (t .family)) where
   pub element-sound : bound < 2 ^ 32 → Sound (forestAt levels (familyAt numbers) (elementOf t e .first) (elementOf t e .tops))
@@ -135,8 +159,7 @@ ok-trees levels bound t room a = record { room = room; some = λ e h. tops-some 
   where
     each : (e : ℕ) → e < t .elements → Element·ok bound (treeOf levels t e)
     each e h =
-        let is : getD (treesOf levels t) e nil ≡ treeOf levels t e = getD-tabulated 0 (t .elements) (treeOf levels t) e nil h ∙ rw zero-add refl in
-        rw is at (all-at (Element·ok bound) (treesOf levels t) e a (omega (arith, length-tabulated 0 (t .elements) (treeOf levels t))))
+        rw (tree-at levels t e h) at (all-at (Element·ok bound) (treesOf levels t) e a (omega (arith, length-tabulated 0 (t .elements) (treeOf levels t))))
 
 pub layout-ok : (levels bound d : ℕ) (Fs : List Forest) → Shallow levels Fs → All (Element·ok bound) Fs → length Fs ≤ 16 → Layout·ok levels bound (layoutOf d Fs)
 unfolding layoutOf

@@ -13,11 +13,10 @@ use Rattle.counting.proofs.Cases.{same-or-not}
 use Rattle.counting.proofs.Counts.{count-stop}
 use Rattle.families.specs.declared.Layout.{Layout}
 use Rattle.families.specs.Forest.{Forest, has, endOf, sizeOf, Sound}
-use Rattle.families.specs.Decoded.{familyAt, familyIn, forestAt, elementOf, treeOf, selections, rowOf, Layout·ok}
-use Rattle.families.proofs.Forests.{wf-wider, size-at, size-some}
-use Rattle.families.proofs.Steps.{step}
+use Rattle.families.specs.Decoded.{familyAt, forestAt, elementOf, treeOf, selections, rowOf, Layout·ok}
+use Rattle.families.proofs.Forests.{wf-wider, size-at}
 use Rattle.families.proofs.Rows.{row-element}
-use Rattle.families.proofs.Flats.{element-sound, element-size, element-small}
+use Rattle.families.proofs.Flats.{element-some, element-sound, element-size, element-small}
 use Rattle.sheets.specs.declared.Reading.{Reading}
 use Rattle.sheets.proofs.Accepted.{Accepted}
 use Rattle.maps.specs.declared.Selection.{Selection}
@@ -55,11 +54,6 @@ module _ (t : Layout) (e : ℕ) where
     tree-sound : Sound (treeOf 4 t e)
     tree-sound = wf-wider (treeOf 4 t e) (omega arith) (omega arith) (ok .ruled e h)
 
-    tree-some : 1 ≤ sizeOf (treeOf 4 t e)
-    tree-some =
-        let S = step 4 (familyIn (t .family)) (elementOf t e .first) (elementOf t e .tops) 65535 _ (ok .some e h) (ok .ruled e h) refl in
-        rw (S .is) (size-some 0 65535 _ _ _ _ _ _ (S .ok))
-
     -- ---- `selection_of`: what it asks of `families`, and what it makes of the answer
     module _ (numbers : List ℕ) (row : numbers ≡ rowOf (t .family)) where
       pub chosen-sound : Sound (forestAt 4 (familyAt numbers) (elementOf t e .first) (elementOf t e .tops))
@@ -87,7 +81,7 @@ module _ (t : Layout) (size : ℕ) (P : Pattern·ok t size) (e : ℕ) (h : e < t
   selection-ok = record {
     sound = rw (families-tree t e size) (tree-sound t e (P .ok) h);
     size = rw (families-tree t e size) (size-below (treeOf 4 t e) size none-past);
-    some = tree-some t e (P .ok) h;
+    some = element-some 4 65535 t (P .ok) e h;
     short = omega (arith, P .most);
   }
 

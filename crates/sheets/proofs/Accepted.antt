@@ -11,9 +11,9 @@ use Rattle.counting.specs.Elements.{times}
 use Rattle.counting.proofs.Cases.{byTest}
 use Rattle.counting.proofs.Stretches.{stretch-is}
 use Rattle.families.specs.Forest.{Forest, has}
-use Rattle.families.specs.Decoded.{treesOf, selections, Layout·ok}
-use Rattle.families.specs.Flat.{All, layoutOf}
-use Rattle.families.proofs.Flats.{trees-back, selections-trees, layout-ok}
+use Rattle.families.specs.Decoded.{elementOf, treeOf, treesOf, selections, Layout·ok}
+use Rattle.families.specs.Flat.{All, total, layoutOf}
+use Rattle.families.proofs.Flats.{trees-back, element-span, selections-trees, layout-ok}
 use Rattle.sheets.specs.declared.Reading.{Reading}
 use Rattle.sheets.specs.Refusals.{Read, got, refused}
 use Rattle.sheets.specs.Bytes.{le32}
@@ -63,6 +63,8 @@ pub record Accepted (r : Reading) : Type 0 where
   -- the sheet rules hold of each element's tree, and there are 1 to 16 elements
   pub ok : Layout·ok 4 65535 (r .layout)
   pub some : 1 ≤ r .layout .elements
+  -- an element's span counts the families of all levels
+  pub spans : (e : ℕ) → e < r .layout .elements → elementOf (r .layout) e .span ≡ total (treeOf 4 (r .layout) e)
   -- the pattern's size is the sum of the elements' sizes
   pub size : r .size ≡ sizes (treesOf 4 (r .layout))
   pub least : 1 ≤ r .size
@@ -87,6 +89,7 @@ module _ (d : ℕ) (Fs : List Forest) (each : All ElementRules Fs) (some : 1 ≤
       record {
         ok = layout-ok 4 65535 d Fs (each-shallow Fs each) (each-ok Fs each) few;
         some = some;
+        spans = element-span 4 d Fs (each-shallow Fs each);
         size = ap sizes (sym back);
         least = least;
         most = size-most Fs tiled 65535 (each-ruled Fs each);

@@ -1,0 +1,61 @@
+-- `put_element` meets its contract. Assumes nothing.
+use Rattle.lines.proofs.Lines.{put-element}
+use Rattle.words.specs.Texts.{word}
+use borrow.Author.Needs.{needs}
+use Rattle.lines.proofs.line.put_element.Statement.{statement}
+use Rattle.lines.proofs.line.put_element.Tie as tie
+use Rattle.lines.proofs.line.put_element.Reads as reads
+use Rattle.lines.proofs.line.put_element.Lts as lts
+use Rattle.words.proofs.put.Reads as put-reads
+use Rattle.words.proofs.put_both.Reads as put-both-reads
+use Rattle.words.proofs.put_number.Reads as put-number-reads
+
+put-number-requires : tie.Need-put-number-requires
+put-number-requires c κs = search needs
+
+slice-aggregate-put-both : tie.Need-slice-aggregate-put-both
+slice-aggregate-put-both c = search needs
+
+put-both-requires : tie.Need-put-both-requires
+put-both-requires c κs = search needs
+
+slice-aggregate-put-both-2 : tie.Need-slice-aggregate-put-both-2
+slice-aggregate-put-both-2 c = search needs
+
+put-both-requires-2 : tie.Need-put-both-requires-2
+put-both-requires-2 c κs = search needs
+
+slice-aggregate-put-both-3 : tie.Need-slice-aggregate-put-both-3
+slice-aggregate-put-both-3 c = search needs
+
+put-both-requires-3 : tie.Need-put-both-requires-3
+put-both-requires-3 c κs = search needs
+
+slice-aggregate-put : tie.Need-slice-aggregate-put
+slice-aggregate-put c = search needs
+
+put-requires : tie.Need-put-requires
+put-requires c κs = search needs
+
+same-length : tie.Need-same-length
+same-length c = search needs
+
+returns : tie.Need-returns
+unfolding word
+returns c = put-element _ _ _ _ (c .before .before .before .before .before .before .before .before .before .before .before .before .before .before .before .before .before .before .before .before .before .before .put-number .ensures) (c .before .before .before .before .before .before .before .before .before .before .before .before .before .before .before .before .before .put-both .ensures) (c .before .before .before .before .before .before .before .before .before .before .before .before .put-both2 .ensures) (c .before .before .before .before .before .before .before .put-both3 .ensures) (c .before .before .put .ensures)
+
+pub put-element-spec : {M : Type 1} → statement M
+put-element-spec =
+    tie.close
+    (tie.spec
+    put-number-requires
+    slice-aggregate-put-both
+    put-both-requires
+    slice-aggregate-put-both-2
+    put-both-requires-2
+    slice-aggregate-put-both-3
+    put-both-requires-3
+    slice-aggregate-put
+    put-requires
+    same-length
+    returns)

@@ -1,0 +1,23 @@
+use Rattle.words.proofs.Puts.{_then_}
+use borrow.Author.Needs.{needs}
+use Rattle.words.proofs.put_both.Statement.{statement}
+use Rattle.words.proofs.put_both.Tie as tie
+use Rattle.words.proofs.put_both.Reads as reads
+use Rattle.words.proofs.put_both.Lts as lts
+use Rattle.words.proofs.put.Reads as put-reads
+use Rattle.words.proofs.put_number.Reads as put-number-reads
+
+put-requires : tie.Need-put-requires
+put-requires c κs = search needs
+
+put-number-requires : tie.Need-put-number-requires
+put-number-requires c κs = search needs
+
+same-length : tie.Need-same-length
+same-length c = search needs
+
+returns : tie.Need-returns
+returns c = c .before .before .before .before .before .before .put .ensures then c .before .before .put-number .ensures
+
+pub put-both-spec : {M : Type 1} → statement M
+put-both-spec = tie.close (tie.spec put-requires put-number-requires same-length returns)
