@@ -1,6 +1,6 @@
 //! Sheets at and just past every bound of 01, and sheets with two faults: which of them is named is a rule too.
 
-use crate::figures::{layout_a, layout_f};
+use crate::figures::{hole, layout_a, layout_f, overlap};
 use crate::frame::{Frame, LONGEST_BLOB};
 use crate::layout::{family, layout, run, Family, Layout, Siblings};
 use crate::sheet::{ELEMENT, FAMILY, HEADER};
@@ -24,8 +24,8 @@ pub fn one_of_each() -> Vec<Vec<u8>> {
         single(run(0, 65_536)),
         element(vec![family(0, 1, 6, 2), family(3, 3, 6, 2)]),
         chain(5, run(0, 3)),
-        layout(vec![vec![run(0, 1)], vec![run(3, 3)]]),
-        layout(vec![vec![run(0, 1)], vec![run(1, 2)]]),
+        hole(),
+        overlap(),
     ];
     let damaged = vec![
         Vec::new(),

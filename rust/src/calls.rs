@@ -3,15 +3,16 @@
 
 use crate::buffers::{Transfer, Window};
 use crate::element::{Element, END};
-use crate::frame::{Answer, Frame, CHECK, EXACT, GATHER, INTERVAL_SPAN, INVERSE, MOVE, NEXT, PAIR_MOVE, SCATTER, SHARED_RUNS};
+use crate::frame::{Answer, Frame, CHECK, EXACT, GATHER, INTERVAL_SPAN, INVERSE, LISTING, MOVE, NEXT, PAIR_MOVE, SCATTER, SHARED_RUNS};
 use crate::layout::Layout;
+use crate::listing;
 use crate::pattern::Pattern;
 use crate::refusal::{Refusal, BEFORE, BUFFER, ELEMENT, FAR, FOREIGN, ROOM, WINDOW};
 use crate::runs::{self, Run};
 use crate::sheet;
 
 /// The calls that this program answers.
-pub const KNOWN: [u8; 10] = [CHECK, EXACT, NEXT, INVERSE, INTERVAL_SPAN, GATHER, SCATTER, MOVE, PAIR_MOVE, SHARED_RUNS];
+pub const KNOWN: [u8; 11] = [CHECK, EXACT, NEXT, INVERSE, INTERVAL_SPAN, GATHER, SCATTER, MOVE, PAIR_MOVE, SHARED_RUNS, LISTING];
 
 /// The bytes of a slot, and the slots of a run.
 const SLOT: usize = 8;
@@ -32,6 +33,7 @@ pub fn answer(frame: &Frame) -> Answer {
         INTERVAL_SPAN => interval_span(frame),
         GATHER | SCATTER | MOVE | PAIR_MOVE => carry(frame),
         SHARED_RUNS => shared_runs(frame),
+        LISTING => listing(frame),
         other => unreachable!("no frame of this program has the call {other}"),
     };
     said.unwrap_or_else(|refused| Answer::refused(frame, refused.sheet, refused.refusal))
@@ -166,11 +168,18 @@ fn shared_runs(frame: &Frame) -> Result<Answer, Refused> {
     if runs.len() > room {
         return Err(refused(ROOM, runs.len()));
     }
-    Ok(Answer { into: listed(&runs, &frame.into), ..Answer::accepted(frame, runs.len() as u64, 0) })
+    let slots: Vec<u8> = runs.iter().flat_map(Run::slots).flat_map(u64::to_le_bytes).collect();
+    Ok(Answer { into: written(&slots, &frame.into), ..Answer::accepted(frame, runs.len() as u64, 0) })
 }
 
-/// The list after the call: the runs from its front on. What lies behind them stays, whole slots or not.
-fn listed(runs: &[Run], list: &[u8]) -> Vec<u8> {
-    let written: Vec<u8> = runs.iter().flat_map(Run::slots).flat_map(u64::to_le_bytes).collect();
-    [&written, &list[written.len()..]].concat()
+/// A refused sheet has a text too, so it is no refused call: only a buffer that is too short is.
+fn listing(frame: &Frame) -> Result<Answer, Refused> {
+    let text = listing::text(&frame.sheet1);
+    refuse_if(frame.into.len() < text.len(), BUFFER)?;
+    Ok(Answer { into: written(text.as_bytes(), &frame.into), ..Answer::accepted(frame, text.len() as u64, 0) })
+}
+
+/// A buffer or list after the call: what is written stands at its front. What lies behind stays, whole slots or not.
+fn written(front: &[u8], before: &[u8]) -> Vec<u8> {
+    [front, &before[front.len()..]].concat()
 }

@@ -5,8 +5,9 @@ use crate::buffers::Window;
 use crate::damage::damaged;
 use crate::edges::wrapping;
 use crate::element::{Element, END};
-use crate::frame::{has_two_sheets, Frame, CHECK, EXACT, INTERVAL_SPAN, INVERSE, SHARED_RUNS};
+use crate::frame::{has_two_sheets, Frame, CHECK, EXACT, INTERVAL_SPAN, INVERSE, LISTING, SHARED_RUNS};
 use crate::layout::Layout;
+use crate::listing;
 use crate::random::Random;
 use crate::shapes;
 use crate::transfers::{self, TRANSFERS};
@@ -15,14 +16,32 @@ use crate::write::sheet;
 
 pub fn frame(random: &mut Random, call: u8) -> Frame {
     match call {
-        CHECK => {
-            let layout = shapes::any(random);
-            Frame::check(damaged(random, layout))
-        }
+        CHECK => Frame::check(any_sheet(random)),
         SHARED_RUNS => shared_runs(random),
+        LISTING => listing(random),
         _ if TRANSFERS.contains(&call) => transfer(random, call),
         _ => of_one_element(random, call),
     }
+}
+
+/// A sheet of any length, most often refused.
+fn any_sheet(random: &mut Random) -> Vec<u8> {
+    let layout = shapes::any(random);
+    damaged(random, layout)
+}
+
+/// Mostly with room for the text, and then often with no byte more.
+fn listing(random: &mut Random) -> Frame {
+    // The text of a layout says more than that of a refusal.
+    let sheet = if random.once_in(4) { sheet(&shapes::any(random)) } else { any_sheet(random) };
+    let text = listing::text(&sheet).len() as u64;
+    let length = match random.below(12) {
+        0 => text - 1,
+        1 => random.long_below(text),
+        2..=5 => text,
+        _ => text + 1 + random.long_below(40),
+    };
+    Frame::listing(sheet, bytes(random, length))
 }
 
 /// Sheets of so many bytes at most show nearly all that these calls have to show, and the frames are kept. Now and then there is room for

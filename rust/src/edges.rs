@@ -4,7 +4,7 @@ use crate::bounds::one_of_each;
 use crate::element::{Element, END};
 use crate::figures::{inner_pairs, layout_b, layout_c, layout_f, whole_file};
 use crate::frame::{Frame, EXACT, INVERSE, NEXT};
-use crate::layout::{family, layout, run, Layout};
+use crate::layout::{family, layout, run, Layout, Siblings};
 use crate::write::sheet;
 
 pub fn frames() -> Vec<Frame> {
@@ -28,6 +28,35 @@ pub fn layouts() -> Vec<Layout> {
         // Element 0 stands last in the pattern: its byte 0 is not at the displacement.
         from(3, layout(vec![vec![run(5, 6)], vec![run(0, 4)]])),
     ]
+}
+
+/// Every bound at once: 16 elements, 256 families, four levels, a pattern of 65,536 bytes, the largest displacement. No text of the listing
+/// program is longer: no choice of sizes, families or first offsets has more digits.
+pub fn fullest() -> Layout {
+    let (mut elements, mut start) = (Vec::new(), 0);
+    for index in 0..16 {
+        let size = match index {
+            0..5 => 10_000,
+            5..15 => 1_412,
+            _ => 1_416,
+        };
+        let families = match index {
+            0 => 100,
+            1..15 => 10,
+            _ => 16,
+        };
+        elements.push(deep(start, size, families));
+        start += size;
+    }
+    Layout { displacement: u32::MAX, elements }
+}
+
+/// One stretch in so many families: three around each other, and in those single bytes and one family of all the rest.
+fn deep(start: u32, size: u32, families: u32) -> Siblings {
+    let last = families - 4;
+    let innermost: Siblings = (0..last).map(|x| run(x, x)).chain([run(last, size - 1)]).collect();
+    let inside = |children| vec![run(0, size - 1).with(children)];
+    vec![run(start, start + size - 1).with(inside(inside(innermost)))]
 }
 
 /// An element index for each frame of a layout: all of them in turn.

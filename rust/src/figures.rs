@@ -42,6 +42,16 @@ pub fn inner_singles() -> Layout {
     layout(vec![part(family(0, 0, 2, 2)), part(family(1, 1, 2, 2)), vec![family(4, 7, 8, 4)]])
 }
 
+/// {(0,1)}, {(3,3)}: 2 is in no element.
+pub fn hole() -> Layout {
+    layout(vec![vec![run(0, 1)], vec![run(3, 3)]])
+}
+
+/// {(0,1)}, {(1,2)}: 1 is in both.
+pub fn overlap() -> Layout {
+    layout(vec![vec![run(0, 1)], vec![run(1, 2)]])
+}
+
 /// Every byte of the file is in the one element: a byte's file offset is its subfile offset and the displacement.
 pub fn whole_file(displacement: u32) -> Layout {
     Layout { displacement, ..layout(vec![vec![run(0, 0)]]) }
@@ -61,7 +71,7 @@ const FIRST: u64 = 10 + 6;
 const SECOND: u64 = FIRST + 22;
 
 pub fn figures() -> Vec<Figure> {
-    sheets().into_iter().chain(mappings()).chain(trays()).chain(ends()).chain(shared_runs()).collect()
+    sheets().into_iter().chain(mappings()).chain(trays()).chain(ends()).chain(shared_runs()).chain(listings()).collect()
 }
 
 /// Call 1.
@@ -75,8 +85,8 @@ fn sheets() -> Vec<Figure> {
         accepted("layout C, the panel", &layout_c(), 1920),
         accepted("(0,7,16,2,{(0,1,4,2)}) in a pattern of 32", &inner_pairs(), 32),
         accepted("(0,3,8,4,{(0,0,2,2)}) in a pattern of 32", &inner_singles(), 32),
-        refused("{(0,1)}, {(3,3)}", &layout(vec![vec![run(0, 1)], vec![run(3, 3)]]), COVER, 2, HOLE),
-        refused("{(0,1)}, {(1,2)}", &layout(vec![vec![run(0, 1)], vec![run(1, 2)]]), COVER, 1, OVERLAP),
+        refused("{(0,1)}, {(3,3)}", &hole(), COVER, 2, HOLE),
+        refused("{(0,1)}, {(1,2)}", &overlap(), COVER, 1, OVERLAP),
         accepted("(0,1,2,2) meets the stride rule", &single(family(0, 1, 2, 2)), 4),
         refused("(0,1,1,2)", &single(family(0, 1, 1, 2)), SEGMENT, FIRST, NO_FLAG),
         refused("(0,1,6,1)", &single(family(0, 1, 6, 1)), SEGMENT, FIRST, NO_FLAG),
@@ -188,5 +198,26 @@ fn shared_runs() -> Vec<Figure> {
         of("the nested families share 0 and 16", [&pairs, &singles], (0, 32), 8, &[0, 1, 0, 0, 16, 1, 4, 4], value(2)),
         of("the window end 2^40 is accepted", a_with_b, (END - 3, END), 4, &[], value(0)),
         of("the window end 2^40+1 is FAR", a_with_b, (END - 3, END + 1), 4, &[], number(FAR)),
+    ]
+}
+
+pub const LISTING_F: &str = "\
+layout displacement 2 size 6 elements 3
+0 size 2 families 1 first 0
+1 size 2 families 1 first 2
+2 size 2 families 1 first 4
+";
+
+/// Call 11, with a buffer just as long as the text.
+fn listings() -> Vec<Figure> {
+    let of = |name, sheet: Vec<u8>, text: &str| {
+        let frame = Frame::listing(sheet, vec![238; text.len()]);
+        Figure { name, frame, answer: Answer { into: text.into(), ..value(text.len() as u64) } }
+    };
+    vec![
+        of("the listing of F", sheet(&layout_f()), LISTING_F),
+        of("the listing of empty input", Vec::new(), "refused 1 at 0\n"),
+        of("the listing of a hole", sheet(&hole()), "refused 11 at 2 hole\n"),
+        of("the listing of an overlap", sheet(&overlap()), "refused 11 at 1 overlap\n"),
     ]
 }

@@ -2,7 +2,7 @@
 
 use crate::refusal::Refusal;
 
-/// The calls by their number. 11 is not there yet.
+/// The calls by their number.
 pub const CHECK: u8 = 1;
 pub const EXACT: u8 = 2;
 pub const NEXT: u8 = 3;
@@ -13,6 +13,7 @@ pub const SCATTER: u8 = 7;
 pub const MOVE: u8 = 8;
 pub const PAIR_MOVE: u8 = 9;
 pub const SHARED_RUNS: u8 = 10;
+pub const LISTING: u8 = 11;
 
 /// Whether a call has a second sheet.
 pub fn has_two_sheets(call: u8) -> bool {
@@ -83,6 +84,11 @@ impl Frame {
     pub fn shared_runs(sheets: [Vec<u8>; 2], [i, j]: [u64; 2], (a, b): (u64, u64), list: Vec<u8>) -> Frame {
         let [sheet1, sheet2] = sheets;
         Frame { call: SHARED_RUNS, i, j, a, b, sheet1, sheet2, into: list, ..Frame::default() }
+    }
+
+    /// The text of the listing program, for a buffer of at least its length.
+    pub fn listing(sheet: Vec<u8>, buffer: Vec<u8>) -> Frame {
+        Frame { call: LISTING, sheet1: sheet, into: buffer, ..Frame::default() }
     }
 
     pub fn bytes(&self) -> Vec<u8> {

@@ -4,10 +4,10 @@ use crate::figures::{figures, layout_f};
 use crate::frame::{self, Frame, CHECK, LONGEST_BLOB, MOST};
 use crate::random::Random;
 use crate::write::sheet;
-use crate::{bounds, chance, edges, transfers, windows};
+use crate::{bounds, chance, edges, texts, transfers, windows};
 
-/// The calls that frames are made of, `CHECK` first: those that the program `answers` has. `calls::KNOWN` may have more, which are added here once
-/// `answers` has them, and the kept frames are made anew.
+/// The calls that frames are made of, `CHECK` first: those that the program `answers` has. `calls::KNOWN` may have more, which are added
+/// here once `answers` has them, and the kept frames are made anew.
 pub const CALLS: &[u8] = &[
     CHECK,
     frame::EXACT,
@@ -38,7 +38,8 @@ pub fn frames(calls: &[u8], seed: u64, count: usize) -> Vec<Frame> {
 /// The figures and edges of all calls.
 fn fixed() -> Vec<Frame> {
     let figures = figures().into_iter().map(|figure| figure.frame);
-    figures.chain(bounds::frames()).chain(edges::frames()).chain(windows::frames()).chain(transfers::frames()).collect()
+    let edges = [bounds::frames(), edges::frames(), windows::frames(), transfers::frames(), texts::frames()];
+    figures.chain(edges.into_iter().flatten()).collect()
 }
 
 /// How many of `count` frames the call at a place of the list has: the first one a third of them, since every call reads sheets and they

@@ -1,7 +1,10 @@
 //! A frame and a line in words, for a person who looks at a difference.
 
 use crate::calls;
-use crate::frame::{has_two_sheets, Frame, CHECK, EXACT, GATHER, INTERVAL_SPAN, INVERSE, MOVE, NEXT, PAIR_MOVE, SCATTER, SHARED_RUNS};
+use crate::frame::{
+    has_two_sheets, Frame, CHECK, EXACT, GATHER, INTERVAL_SPAN, INVERSE, LISTING, MOVE, NEXT, PAIR_MOVE, SCATTER, SHARED_RUNS,
+};
+use crate::listing;
 use crate::refusal::{HOLE, NAMES, OVERLAP};
 use crate::sheet::{ELEMENT, FAMILY, HEADER};
 
@@ -32,6 +35,10 @@ fn frame(frame: &Frame) -> String {
     if let Some(into) = into {
         out += &format!("  {into} before the call, {} bytes: {}\n", frame.into.len(), shown(&frame.into));
     }
+    if frame.call == LISTING {
+        out += "  the text\n";
+        out.extend(listing::text(&frame.sheet1).lines().map(|line| format!("    {line}\n")));
+    }
     out
 }
 
@@ -42,6 +49,7 @@ fn buffer_names(call: u8) -> (Option<&'static str>, Option<&'static str>) {
         SCATTER => (Some("the packed buffer"), Some("the file buffer")),
         MOVE | PAIR_MOVE => (Some("the tray of sheet 1"), Some("the tray of sheet 2")),
         SHARED_RUNS => (None, Some("the list")),
+        LISTING => (None, Some("the text buffer")),
         _ => (None, None),
     }
 }
@@ -62,6 +70,7 @@ fn call(Frame { call, i, j, a, b, into, .. }: &Frame) -> String {
             let slots = into.len() / 8;
             format!("shared runs of element {i} of sheet 1 and element {j} of sheet 2 in the window [{a}, {b}), a list of {slots} slots")
         }
+        LISTING => format!("listing, into a buffer of {} bytes", into.len()),
         other => format!("call {other}"),
     }
 }
@@ -137,6 +146,7 @@ fn buffers(asked: Option<&Frame>, expected: &str, printed: &str) -> Option<Strin
     let digits = expected.len().max(printed.len());
     let byte = (0..digits).find(|place| expected.as_bytes().get(*place) != printed.as_bytes().get(*place))? / 2;
     let what = match asked {
+        Some(Frame { call: LISTING, .. }) => differing_text(byte, expected, printed),
         Some(frame) if frame.call != SHARED_RUNS => differing_byte(frame, byte, expected, printed),
         _ => differing_slot(byte / 8, expected, printed),
     };
@@ -148,6 +158,20 @@ fn differing_byte(frame: &Frame, byte: usize, expected: &str, printed: &str) -> 
     let digits = |buffer: &str| buffer.get(2 * byte..2 * byte + 2).map_or(String::from("no byte"), String::from);
     let offset = calls::places(frame).and_then(|places| places.get(byte).map(|x| format!("file offset {x} ")));
     format!("{}is to be {}, and is {}", offset.unwrap_or(String::from("it ")), digits(expected), digits(printed))
+}
+
+/// The line of the text that a byte is in, in either line.
+fn differing_text(byte: usize, expected: &str, printed: &str) -> String {
+    format!("the text there is to be {}, and is {}", text_line(expected, byte), text_line(printed, byte))
+}
+
+/// The bytes around one from digits, as far as they are one line of a text.
+fn text_line(buffer: &str, byte: usize) -> String {
+    let bytes: Vec<u8> = (0..buffer.len()).step_by(2).map_while(|at| u8::from_str_radix(buffer.get(at..at + 2)?, 16).ok()).collect();
+    let before = bytes.iter().take(byte).rposition(|byte| *byte == b'\n');
+    let line = bytes.iter().skip(before.map_or(0, |newline| newline + 1));
+    let line: Vec<u8> = line.take_while(|byte| **byte != b'\n').copied().collect();
+    format!("'{}'", cut(&line.escape_ascii().to_string()))
 }
 
 /// The number of a slot in either line.

@@ -2,10 +2,12 @@
 //! every offset from the displacement on is counted.
 
 use comparison::element::{Element, END};
-use comparison::layout::{Family, Layout};
+use comparison::layout::{layout, Family, Layout};
+use comparison::listing::text;
 use comparison::random::Random;
 use comparison::runs::{shared, Run};
 use comparison::shapes;
+use comparison::write::{records, sheet};
 
 /// Whether families select an offset: some segment of some family holds it, and the children, if any, select it there.
 fn select(families: &[Family], x: u64) -> bool {
@@ -16,10 +18,12 @@ fn in_segment(family: &Family, start: u64, x: u64) -> bool {
     x >= start && x < start + family.width() && (family.children.is_empty() || select(&family.children, x - start))
 }
 
-/// Layouts small enough to look at every segment for every offset.
+/// The longest pattern of which every segment is looked at for every offset.
+const SMALL: u64 = 600;
+
 fn some_layouts(seed: u64, many: usize) -> Vec<Layout> {
     let mut random = Random::new(seed);
-    let small = |layout: &Layout| Element::of(layout, 0).period() <= 600;
+    let small = |layout: &Layout| Element::of(layout, 0).period() <= SMALL;
     std::iter::repeat_with(|| shapes::any(&mut random)).filter(small).take(many).collect()
 }
 
@@ -83,5 +87,21 @@ fn runs_are_maximal_and_hold_what_is_shared() {
         assert!(runs.windows(2).all(|next| next[0].start + next[0].length < next[1].start));
         let ranked = |run: &Run| run.length > 0 && run.subfile1 == first.rank(run.start) && run.subfile2 == second.rank(run.start);
         assert!(runs.iter().all(ranked));
+    }
+}
+
+#[test]
+fn a_listing_counts_offsets_and_records() {
+    for some in some_layouts(6, 100) {
+        let selected = |families: &[Family]| (0..SMALL).filter(|x| select(families, *x)).collect::<Vec<u64>>();
+        let each: Vec<Vec<u64>> = some.elements.iter().map(|families| selected(families)).collect();
+        let size: usize = each.iter().map(Vec::len).sum();
+        let mut lines = format!("layout displacement {} size {size} elements {}\n", some.displacement, each.len());
+        for (index, offsets) in each.iter().enumerate() {
+            // A sheet of this element alone has a header, the element's record, and one for each family.
+            let families = records(&layout(vec![some.elements[index].clone()])).len() - 2;
+            lines += &format!("{index} size {} families {families} first {}\n", offsets.len(), offsets[0]);
+        }
+        assert_eq!(text(&sheet(&some)), lines);
     }
 }

@@ -2,7 +2,7 @@
 
 use comparison::calls::{answer, KNOWN};
 use comparison::frame::{has_two_sheets, Answer, Frame};
-use comparison::frame::{CHECK, EXACT, GATHER, INTERVAL_SPAN, INVERSE, MOVE, NEXT, PAIR_MOVE, SCATTER, SHARED_RUNS};
+use comparison::frame::{CHECK, EXACT, GATHER, INTERVAL_SPAN, INVERSE, LISTING, MOVE, NEXT, PAIR_MOVE, SCATTER, SHARED_RUNS};
 use comparison::generate::{bad_end, by_chance, frames, BAD_ENDS, CALLS, KEPT};
 use comparison::refusal::{BEFORE, BUFFER, ELEMENT, FAR, FOREIGN, HOLE, NO_FLAG, OVERLAP, ROOM, WINDOW};
 use comparison::transfers::TRANSFERS;
@@ -11,14 +11,19 @@ use std::sync::OnceLock;
 /// How often each refusal is to be met, by call 1 in a sheet and by the other calls in what else they check.
 const OFTEN: usize = 15;
 
-/// The kept frames, with every call that is known: whether it is asked yet or not.
-fn kept() -> &'static [Frame] {
-    static KEPT_FRAMES: OnceLock<Vec<Frame>> = OnceLock::new();
-    KEPT_FRAMES.get_or_init(|| frames(&KNOWN, KEPT.0, KEPT.1))
+/// The kept frames, with every call that is known, whether it is asked yet or not; and the answer to each.
+fn kept() -> &'static [(Frame, Answer)] {
+    static KEPT_FRAMES: OnceLock<Vec<(Frame, Answer)>> = OnceLock::new();
+    KEPT_FRAMES.get_or_init(|| frames(&KNOWN, KEPT.0, KEPT.1).into_iter().map(answered).collect())
 }
 
-fn answers(call: u8) -> Vec<Answer> {
-    kept().iter().filter(|frame| frame.call == call).map(answer).collect()
+fn answered(frame: Frame) -> (Frame, Answer) {
+    let answer = answer(&frame);
+    (frame, answer)
+}
+
+fn answers(call: u8) -> Vec<&'static Answer> {
+    kept().iter().filter(|(frame, _)| frame.call == call).map(|(_, answer)| answer).collect()
 }
 
 #[test]
@@ -78,10 +83,26 @@ fn every_other_call_meets_its_own_refusals_often_and_no_others() {
     }
 }
 
-/// But for number 5: a sheet of 257 families is long, and only call 1 has some.
+/// A refused sheet has a text, and so has an accepted one.
+#[test]
+fn listing_writes_every_line_and_refuses_a_buffer_alone() {
+    let answers = answers(LISTING);
+    let (written, refused): (Vec<&Answer>, Vec<&Answer>) = answers.iter().partition(|answer| answer.number == 0);
+    assert!(refused.len() >= OFTEN && refused.iter().all(|answer| answer.number == BUFFER));
+    let text = |answer: &Answer| String::from_utf8_lossy(&answer.into[..answer.value as usize]).into_owned();
+    let texts: Vec<String> = written.into_iter().map(text).collect();
+    let met = |front: &str, end: &str| texts.iter().filter(|text| text.starts_with(front) && text.ends_with(end)).count();
+    let numbers = (1..=10).map(|number| (format!("refused {number} at "), "\n"));
+    let flags = [" hole\n", " overlap\n"].map(|end| (String::from("refused 11 at "), end));
+    for (front, end) in numbers.chain(flags).chain([(String::from("layout displacement "), "\n")]) {
+        assert!(met(&front, end) >= 5, "'{front}' is met {} times", met(&front, end));
+    }
+}
+
+/// But for number 5: a sheet of 257 families is long, and only call 1 has some. A listing refuses no sheet.
 #[test]
 fn every_call_meets_every_refusal_of_a_sheet() {
-    for call in KNOWN {
+    for call in KNOWN.into_iter().filter(|call| *call != LISTING) {
         let answers = answers(call);
         let met = |number: u8, flag: u8, sheet: u8| answers.iter().any(|a| (a.number, a.flag, a.sheet) == (number, flag, sheet));
         for sheet in if has_two_sheets(call) { vec![1, 2] } else { vec![1] } {
@@ -114,9 +135,9 @@ fn runs_are_long_and_many_now_and_then() {
 }
 
 /// The frames of a call that are accepted, with the destination after it.
-fn carried(call: u8) -> Vec<(&'static Frame, Vec<u8>)> {
-    let answered = kept().iter().filter(|frame| frame.call == call).map(|frame| (frame, answer(frame)));
-    answered.filter(|(_, answer)| answer.number == 0).map(|(frame, answer)| (frame, answer.into)).collect()
+fn carried(call: u8) -> Vec<(&'static Frame, &'static Vec<u8>)> {
+    let accepted = kept().iter().filter(|(frame, answer)| frame.call == call && answer.number == 0);
+    accepted.map(|(frame, answer)| (frame, &answer.into)).collect()
 }
 
 /// Who copies nothing, or plainly from the source's front, is found out by each call of 6 to 9; and by a pair move, who moves all.
@@ -154,21 +175,22 @@ fn few_buffers_are_long() {
 /// What a call does not use is 0 or empty.
 #[test]
 fn a_frame_has_nothing_that_its_call_does_not_use() {
-    for frame in kept() {
+    for (frame, _) in kept() {
         let uses = |calls: &[u8]| calls.contains(&frame.call) || TRANSFERS.contains(&frame.call);
         assert!(frame.sheet2.is_empty() || has_two_sheets(frame.call));
-        assert!(frame.i == 0 || ![CHECK, MOVE].contains(&frame.call));
+        assert!(frame.i == 0 || ![CHECK, MOVE, LISTING].contains(&frame.call));
         assert!(frame.j == 0 || [PAIR_MOVE, SHARED_RUNS].contains(&frame.call));
-        assert!(frame.a == 0 || frame.call != CHECK);
+        assert!(frame.a == 0 || ![CHECK, LISTING].contains(&frame.call));
         assert!(frame.b == 0 || uses(&[INTERVAL_SPAN, SHARED_RUNS]));
         assert!(frame.from.is_empty() || uses(&[]));
-        assert!(frame.into.is_empty() || uses(&[SHARED_RUNS]));
+        assert!(frame.into.is_empty() || uses(&[SHARED_RUNS, LISTING]));
     }
 }
 
 #[test]
 fn the_kept_frames_are_few_enough_to_keep() {
-    let bytes = kept().iter().map(|frame| frame.bytes().len()).sum::<usize>() + bad_end(KEPT.0).len();
+    let asked = kept().iter().filter(|(frame, _)| CALLS.contains(&frame.call));
+    let bytes = asked.map(|(frame, _)| frame.bytes().len()).sum::<usize>() + bad_end(KEPT.0).len();
     assert!(bytes < 2_000_000, "{bytes} bytes");
 }
 
@@ -176,9 +198,9 @@ fn the_kept_frames_are_few_enough_to_keep() {
 #[test]
 fn every_frame_is_read_back_and_answered() {
     let seeds = (0..40).flat_map(|seed| KNOWN.into_iter().flat_map(move |call| by_chance(call, seed, 25)));
-    for frame in seeds.chain(kept().iter().cloned()) {
+    for (frame, answer) in seeds.map(answered).chain(kept().iter().cloned()) {
         let bytes = [frame.bytes(), vec![7]].concat();
-        assert_eq!(answer(&frame).into.len(), frame.into.len());
+        assert_eq!(answer.into.len(), frame.into.len());
         assert_eq!(Frame::read(&bytes), Some((frame, &[7][..])));
     }
 }

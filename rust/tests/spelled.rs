@@ -1,7 +1,7 @@
 //! A difference is told so that a person can see the call, the two lines and where they part.
 
 use comparison::calls::answer;
-use comparison::figures::{layout_b, layout_f, slots};
+use comparison::figures::{layout_b, layout_f, slots, LISTING_F};
 use comparison::frame::{Answer, Frame, EXACT, INVERSE, NEXT};
 use comparison::spelled::difference;
 use comparison::write::sheet;
@@ -34,6 +34,7 @@ fn a_call_in_the_words_of_01() {
             Frame::shared_runs([f(), sheet(&layout_b())], [1, 0], (2, 14), slots(9)),
             "shared runs of element 1 of sheet 1 and element 0 of sheet 2 in the window [2, 14), a list of 9 slots",
         ),
+        (Frame::listing(f(), vec![0; 130]), "listing, into a buffer of 130 bytes"),
     ];
     for (frame, line) in lines {
         assert_eq!(first_line(&frame).as_deref(), Some(line));
@@ -92,6 +93,27 @@ fn a_byte_that_differs_is_told_with_its_file_offset() {
     wrong.into.truncate(7);
     assert!(told_of(&frame, &wrong.line()).ends_with("at byte 7: file offset 5 is to be 05, and is no byte"));
     assert!(told_of(&Frame { b: 13, ..frame }, &wrong.line()).ends_with("at byte 7: it is to be 05, and is no byte"));
+}
+
+#[test]
+fn a_text_that_differs_is_told_in_words() {
+    let frame = Frame::listing(sheet(&layout_f()), vec![238; 130]);
+    let right = answer(&frame);
+    let told_of = |wrong: &Answer| difference(Some(&frame), &right.line(), Some(&wrong.line()));
+    let mut wrong = right.clone();
+    // The first offset of element 1, which stands at the end of its line.
+    wrong.into[LISTING_F.find("first 2").expect("F has such a line") + 6] = b'4';
+    let told = told_of(&wrong);
+    assert!(told.contains("the text buffer before the call, 130 bytes: ee ee"), "{told}");
+    assert!(told.contains("  the text\n    layout displacement 2 size 6 elements 3\n    0 size 2 families 1 first 0\n"), "{told}");
+    assert!(told.ends_with("the text there is to be '1 size 2 families 1 first 2', and is '1 size 2 families 1 first 4'"), "{told}");
+    // A text that ends early, and a byte behind the text that did not stay.
+    wrong.into.truncate(50);
+    assert!(told_of(&wrong).ends_with("is to be '0 size 2 families 1 first 0', and is '0 size 2 f'"), "{}", told_of(&wrong));
+    wrong.into = right.into.clone();
+    wrong.into[129] = 0;
+    assert!(told_of(&wrong)
+        .ends_with("at byte 129: the text there is to be '\\xee\\xee\\xee\\xee\\xee\\xee', and is '\\xee\\xee\\xee\\xee\\xee\\x00'"));
 }
 
 #[test]
