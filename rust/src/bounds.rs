@@ -156,10 +156,13 @@ fn chain(levels: u32, innermost: Family) -> Layout {
 
 fn depths() -> Vec<Layout> {
     let mut out: Vec<Layout> = (1..=6).map(|levels| chain(levels, run(0, 3))).collect();
-    // In a second element, and in a second child.
+    // In a second element and in the last, in a second top family, and in a second child at every level.
     let deep = chain(5, run(0, 3)).elements.concat();
-    let late = element([vec![run(0, 3)], chain(5, run(4, 7)).elements.concat()].concat());
-    out.extend([layout(vec![vec![run(4, 7)], deep]), late]);
+    let late = element(vec![run(0, 3), run(4, 7).with(chain(4, run(0, 3)).elements.concat())]);
+    let last = layout([(4..19).map(|x| vec![run(x, x)]).collect(), vec![deep.clone()]].concat());
+    let second = |r, children| vec![run(0, 0), run(1, r).with(children)];
+    let seconds = element(second(9, second(8, second(7, second(6, vec![run(0, 0)])))));
+    out.extend([layout(vec![vec![run(4, 7)], deep]), late, last, seconds]);
     // A level 4 family with children that breaks another rule too.
     let broken = [family(0, 3, 3, 1), family(0, 3, 2, 2), family(0, 3, 0, 0)];
     out.extend(broken.map(|family| chain(4, family.with(vec![run(0, 0)]))));
@@ -202,16 +205,21 @@ fn covers() -> Vec<Layout> {
     elements.into_iter().map(layout).collect()
 }
 
-/// 1, 15, 16, 17 and 18 elements, a byte each; 256 and 257 families.
+/// 1, 15, 16, 17 and 18 elements, a byte each; 256 and 257 families; and family 257 in the last element, as a child, and behind families of
+/// four levels.
 fn counts() -> Vec<Layout> {
     let bytes = |many: u32| layout((0..many).map(|x| vec![run(x, x)]).collect());
     let ones = |many: u32| element((0..many).map(|x| run(x, x)).collect());
     let sixteen = layout((0..16).map(|e| (0..16).map(|k| run(16 * e + k, 16 * e + k)).collect()).collect());
     let stretched = element((0..256).map(|k| run(256 * k, 256 * k + 255)).collect());
     let nested = single(run(0, 300).with((0..256).map(|x| run(x, x)).collect()));
+    let spread = layout((0..16).map(|e| (0..17).map(|k| run(17 * e + k, 17 * e + k)).collect()).collect());
+    let children = element((0..16).map(|k| run(16 * k, 16 * k + 15).with((0..16).map(|x| run(x, x)).collect())).collect());
+    let inside = |levels| chain(levels, run(0, 0)).elements.concat();
+    let chains = element((0..65).map(|x| run(x, x).with(inside(3))).collect());
     let mut out = [1, 15, 16, 17, 18].map(bytes).to_vec();
     out.extend([255, 256, 257].map(ones));
-    out.extend([sixteen, stretched, nested, Layout { displacement: MAX, ..layout_a() }]);
+    out.extend([sixteen, stretched, nested, spread, children, chains, Layout { displacement: MAX, ..layout_a() }]);
     out
 }
 
@@ -257,6 +265,12 @@ fn fields() -> Vec<Vec<u8>> {
     }
     for place in 3..7 {
         out.extend(changed(place, |record| record.set_count(0)));
+    }
+    // A level 4 family that announces children, and nothing follows it: DEPTH.
+    for count in [1, 65_535] {
+        let mut list = records(&chain(4, run(0, 3)));
+        list.last_mut().expect("a chain has families").set_count(count);
+        out.push(bytes(&list));
     }
     out
 }

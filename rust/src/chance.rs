@@ -44,14 +44,14 @@ fn listing(random: &mut Random) -> Frame {
     Frame::listing(sheet, bytes(random, length))
 }
 
-/// Sheets of so many bytes at most show nearly all that these calls have to show, and the frames are kept. Now and then there is room for
-/// 16 elements, and once in a great while for any sheet.
-const BRIEF: usize = 150;
+/// Sheets of so many bytes at most show nearly all that these calls have to show, and the frames are kept: two elements of four levels have
+/// room. Now and then there is room for 16 elements, and once in a great while for any sheet.
+const BRIEF: usize = 200;
 const ROOMY: usize = 500;
 
 /// An accepted layout of any shape, most often with a brief sheet.
 fn accepted(random: &mut Random) -> Layout {
-    let most = if random.once_in(10) { ROOMY } else { BRIEF };
+    let most = if random.once_in(6) { ROOMY } else { BRIEF };
     loop {
         let layout = shapes::any(random);
         if sheet(&layout).len() <= most || random.once_in(300) {
@@ -88,7 +88,7 @@ fn of_one_element(random: &mut Random, call: u8) -> Frame {
     let x = file_offset(random, &element);
     let i = match call {
         // Of many elements only one has x.
-        EXACT if random.once_in(2) => owner(&layout, x).unwrap_or(index) as u64,
+        EXACT if random.once_in(2) => Element::owner(&layout, x).unwrap_or(index) as u64,
         _ => element_index(random, index),
     };
     let sheet = only_sheet(random, &layout);
@@ -97,10 +97,6 @@ fn of_one_element(random: &mut Random, call: u8) -> Frame {
         INTERVAL_SPAN => Frame::interval_span(sheet, i, interval(random, &element, x)),
         _ => Frame::mapping(call, sheet, i, x),
     }
-}
-
-fn owner(layout: &Layout, x: u64) -> Option<usize> {
-    (0..layout.elements.len()).find(|index| Element::of(layout, *index).has(x))
 }
 
 /// The index itself, but for once in twelve times: then one that is none, even where it has the same low bits.
@@ -278,7 +274,7 @@ fn brief_length(random: &mut Random, element: &Element) -> u64 {
 fn meet(random: &mut Random, pair: &mut Pair, (a, b): Window) {
     let x = a.saturating_add(random.long_below(b.saturating_sub(a).max(1)));
     for (layout, element) in pair.layouts.iter().zip(&mut pair.elements) {
-        *element = owner(layout, x).unwrap_or(*element);
+        *element = Element::owner(layout, x).unwrap_or(*element);
     }
 }
 

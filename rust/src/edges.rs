@@ -4,13 +4,14 @@ use crate::bounds::one_of_each;
 use crate::element::{Element, END};
 use crate::figures::{inner_pairs, layout_b, layout_c, layout_f, whole_file};
 use crate::frame::{Frame, EXACT, INVERSE, NEXT};
-use crate::layout::{family, layout, run, Layout, Siblings};
+use crate::layout::{family, layout, run, Layout};
+use crate::shapes::{four_levels, fullest, sixteen};
 use crate::write::sheet;
 
 pub fn frames() -> Vec<Frame> {
     let layouts = layouts();
     let of_each = |make: fn(&Layout) -> Vec<Frame>| layouts.iter().flat_map(make).collect::<Vec<Frame>>();
-    [of_each(mappings), of_each(inverses), of_each(intervals), indexes(), refused_sheets()].concat()
+    [of_each(mappings), of_each(inverses), of_each(intervals), indexes(), refused_sheets(), of_the_fullest()].concat()
 }
 
 /// Layouts of short sheets, their displacements from 0 to the largest, their patterns from one byte to 65,536. But for 0 no displacement
@@ -27,36 +28,9 @@ pub fn layouts() -> Vec<Layout> {
         from(65_534, layout(vec![vec![run(0, 32_766)], vec![run(32_767, 65_534)]])),
         // Element 0 stands last in the pattern: its byte 0 is not at the displacement.
         from(3, layout(vec![vec![run(5, 6)], vec![run(0, 4)]])),
+        from(1_000, four_levels()),
+        from(77, sixteen()),
     ]
-}
-
-/// Every bound at once: 16 elements, 256 families, four levels, a pattern of 65,536 bytes, the largest displacement. No text of the listing
-/// program is longer: no choice of sizes, families or first offsets has more digits.
-pub fn fullest() -> Layout {
-    let (mut elements, mut start) = (Vec::new(), 0);
-    for index in 0..16 {
-        let size = match index {
-            0..5 => 10_000,
-            5..15 => 1_412,
-            _ => 1_416,
-        };
-        let families = match index {
-            0 => 100,
-            1..15 => 10,
-            _ => 16,
-        };
-        elements.push(deep(start, size, families));
-        start += size;
-    }
-    Layout { displacement: u32::MAX, elements }
-}
-
-/// One stretch in so many families: three around each other, and in those single bytes and one family of all the rest.
-fn deep(start: u32, size: u32, families: u32) -> Siblings {
-    let last = families - 4;
-    let innermost: Siblings = (0..last).map(|x| run(x, x)).chain([run(last, size - 1)]).collect();
-    let inside = |children| vec![run(0, size - 1).with(children)];
-    vec![run(start, start + size - 1).with(inside(inside(innermost)))]
 }
 
 /// An element index for each frame of a layout: all of them in turn.
@@ -69,15 +43,23 @@ fn start_and_period(layout: &Layout) -> (u64, u64) {
     (u64::from(layout.displacement), Element::of(layout, 0).period())
 }
 
-/// Exact and next mapping at and around the displacement, the pattern's borders, 2^32, 2^40 and 2^64.
+/// Exact and next mapping at and around the displacement, the pattern's borders, 2^32, 2^40 and 2^64. Of many elements only one has an
+/// offset: exact mapping asks that one too.
 fn mappings(layout: &Layout) -> Vec<Frame> {
     let (d, p) = start_and_period(layout);
     let mut offsets = vec![d, d + 1, d + p - 1, d + p, d + p + 1, d + 7 * p, 1 << 32, END - 1, END, END + 1, u64::MAX];
     if d > 0 {
         offsets.extend([0, d - 1]);
     }
-    let frame = |call, place| Frame::mapping(call, sheet(layout), in_turn(layout, place) as u64, offsets[place]);
-    (0..offsets.len()).flat_map(|place| [EXACT, NEXT].map(|call| frame(call, place))).collect()
+    let frame = |call, index, x| Frame::mapping(call, sheet(layout), index as u64, x);
+    let mut out = Vec::new();
+    for (place, x) in offsets.into_iter().enumerate() {
+        let index = in_turn(layout, place);
+        out.extend([EXACT, NEXT].map(|call| frame(call, index, x)));
+        let owner = Element::owner(layout, x).filter(|owner| *owner != index && x < END);
+        out.extend(owner.map(|owner| frame(EXACT, owner, x)));
+    }
+    out
 }
 
 /// The inverse at the edges of the elements in turn.
@@ -94,7 +76,7 @@ fn inverses(layout: &Layout) -> Vec<Frame> {
 /// Bytes at the borders of the pattern, of the file, and of 64 bits.
 fn edge_bytes(element: &Element) -> Vec<u64> {
     let (size, past) = (element.size(), element.rank(END));
-    vec![0, 1, size - 1, size, size + 1, past - 1, past, past + 1, END - 1, END, wrapping(element), u64::MAX]
+    vec![0, 1, size - 1, size, size + 1, past - 1, past, past + 1, END - 1, END, 1 << 63, wrapping(element), u64::MAX]
 }
 
 /// A byte so far away that its file offset would be a small number again, if 64 bits were all that is kept of it: the first one behind so
@@ -148,4 +130,12 @@ fn indexes() -> Vec<Frame> {
 /// A sheet's refusal goes before all others.
 fn refused_sheets() -> Vec<Frame> {
     one_of_each().iter().flat_map(|sheet| each_call(sheet, u64::MAX, u64::MAX, u64::MAX)).collect()
+}
+
+/// Few, since its sheet is long: in an early pattern, and at the file's end.
+fn of_the_fullest() -> Vec<Frame> {
+    let (layout, sheet) = (fullest(), sheet(&fullest()));
+    let last = Element::of(&layout, 8).rank(END) - 1;
+    let early = u64::from(layout.displacement) + 65_536 + 64_125;
+    [each_call(&sheet, 15, early, 1_416 + 5), each_call(&sheet, 8, END - 1, last)].concat()
 }

@@ -24,6 +24,11 @@ impl Element {
         (0..layout.elements.len()).map(|index| Element { displacement, selected: pattern.selected(index) }).collect()
     }
 
+    /// The index of the element that a file offset belongs to; before the displacement there is none.
+    pub fn owner(layout: &Layout, x: u64) -> Option<usize> {
+        Element::all(layout).iter().position(|element| element.has(x))
+    }
+
     pub fn displacement(&self) -> u64 {
         self.displacement
     }

@@ -4,7 +4,7 @@ use crate::figures::{figures, layout_f};
 use crate::frame::{self, Frame, CHECK, LONGEST_BLOB, MOST};
 use crate::random::Random;
 use crate::write::sheet;
-use crate::{bounds, chance, edges, texts, transfers, windows};
+use crate::{bounds, chance, edges, texts, transfers, unused, windows};
 
 /// The calls that frames are made of, `CHECK` first: those that the program `answers` has. `calls::KNOWN` may have more, which are added
 /// here once `answers` has them, and the kept frames are made anew.
@@ -22,7 +22,7 @@ pub const CALLS: &[u8] = &[
 ];
 
 /// The seed and count of the frames that are kept beside the program `answers`. The seed also picks their bad end: one that is too long.
-pub const KEPT: (u64, usize) = (2014, 1_875);
+pub const KEPT: (u64, usize) = (2014, 2_040);
 
 /// The frames of a seed, call by call. Of each call the first ones do not depend on the seed.
 pub fn frames(calls: &[u8], seed: u64, count: usize) -> Vec<Frame> {
@@ -38,15 +38,15 @@ pub fn frames(calls: &[u8], seed: u64, count: usize) -> Vec<Frame> {
 /// The figures and edges of all calls.
 fn fixed() -> Vec<Frame> {
     let figures = figures().into_iter().map(|figure| figure.frame);
-    let edges = [bounds::frames(), edges::frames(), windows::frames(), transfers::frames(), texts::frames()];
+    let edges = [bounds::frames(), edges::frames(), windows::frames(), transfers::frames(), texts::frames(), unused::frames()];
     figures.chain(edges.into_iter().flatten()).collect()
 }
 
-/// How many of `count` frames the call at a place of the list has: the first one a third of them, since every call reads sheets and they
+/// How many of `count` frames the call at a place of the list has: the first one a quarter of them, since every call reads sheets and they
 /// can go wrong in the most ways, the others the same number each, or one less.
 fn share(place: usize, calls: usize, count: usize) -> usize {
     let others = calls - 1;
-    let rest = if others == 0 { 0 } else { count / 3 * 2 };
+    let rest = if others == 0 { 0 } else { count / 4 * 3 };
     match place {
         0 => count - rest,
         _ => (rest + others - place) / others,

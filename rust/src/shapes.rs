@@ -1,6 +1,7 @@
-//! Layouts that 01 accepts, of many shapes: every offset of the pattern is in exactly one element.
+//! Layouts that 01 accepts, of many shapes: every offset of the pattern is in exactly one element. Chance picks them; the last three are
+//! always the same.
 
-use crate::layout::{count, repeated, run, Layout, Siblings};
+use crate::layout::{count, family, layout, repeated, run, Layout, Siblings};
 use crate::random::Random;
 
 const MOST_BYTES: u32 = 65_536;
@@ -168,4 +169,57 @@ fn runs(random: &mut Random, length: u32, parts: u32, most: u32) -> Vec<Siblings
         start = end;
     }
     elements
+}
+
+/// Four levels of two segments each, with a gap behind every segment: elements 0 and 1 have the innermost bytes in turn, and each of the
+/// others the gaps of one level.
+pub fn four_levels() -> Layout {
+    let first = |inside| vec![family(0, 29, 32, 2).with(inside)];
+    let second = |inside| first(vec![family(0, 9, 15, 2).with(inside)]);
+    let third = |inside| second(vec![family(0, 3, 5, 2).with(inside)]);
+    layout(vec![
+        third(vec![family(0, 0, 2, 2)]),
+        third(vec![family(1, 1, 2, 2)]),
+        second(vec![family(4, 4, 5, 2)]),
+        first(vec![family(10, 14, 15, 2)]),
+        vec![family(30, 31, 32, 2)],
+    ])
+}
+
+/// 16 elements, in another order in the pattern than in the sheet.
+pub fn sixteen() -> Layout {
+    let element = |e: u32| {
+        let start = 5 * e % 16 * 3;
+        vec![family(start, start + 2, 48, 2)]
+    };
+    layout((0..16).map(element).collect())
+}
+
+/// Every bound at once: 16 elements, 256 families, four levels, a pattern of 65,536 bytes, the largest displacement. No text of the listing
+/// program is longer: no choice of sizes, families or first offsets has more digits.
+pub fn fullest() -> Layout {
+    let (mut elements, mut start) = (Vec::new(), 0);
+    for index in 0..16 {
+        let size = match index {
+            0..5 => 10_000,
+            5..15 => 1_412,
+            _ => 1_416,
+        };
+        let families = match index {
+            0 => 100,
+            1..15 => 10,
+            _ => 16,
+        };
+        elements.push(deep(start, size, families));
+        start += size;
+    }
+    Layout { displacement: u32::MAX, elements }
+}
+
+/// One stretch in so many families: three around each other, and in those single bytes and one family of all the rest.
+fn deep(start: u32, size: u32, families: u32) -> Siblings {
+    let last = families - 4;
+    let innermost: Siblings = (0..last).map(|x| run(x, x)).chain([run(last, size - 1)]).collect();
+    let inside = |children| vec![run(0, size - 1).with(children)];
+    vec![run(start, start + size - 1).with(inside(inside(innermost)))]
 }

@@ -1,11 +1,12 @@
 //! Call 11 at the edges: every line that a text can have, numbers where a digit is added, and buffers of all lengths around the text's.
 
 use crate::bounds::{self, one_of_each};
-use crate::edges::{self, fullest};
+use crate::edges;
 use crate::figures::{inner_singles, layout_b};
 use crate::frame::Frame;
 use crate::layout::{layout, run, Layout};
 use crate::listing::text;
+use crate::shapes::fullest;
 use crate::sheet::read;
 use crate::write::sheet;
 use std::collections::BTreeMap;
@@ -34,17 +35,18 @@ fn every_length() -> Vec<Frame> {
     accepted.chain(one_of_each()).flat_map(lengths).collect()
 }
 
-/// Of the sheets that call 1 is asked about, some of each refusal and flag: so many that places of all lengths are among them.
+/// Of the refused sheets that call 1 is asked about, some of each number and flag, from first to last; those that are longer than
+/// the listing program reads are left out.
 fn every_refusal() -> Vec<Frame> {
-    const OF_EACH: usize = 12;
-    let mut met = BTreeMap::new();
-    let sheets = bounds::frames().into_iter().map(|frame| frame.sheet1).filter(|sheet| sheet.len() <= 6_000);
-    let some = sheets.filter(|sheet| {
-        let met = met.entry(read(sheet).map_or_else(|refusal| (refusal.number, refusal.flag), |_| (0, 0))).or_insert(0);
-        *met += 1;
-        *met <= OF_EACH
-    });
-    some.map(|sheet| fitting(&sheet)).collect()
+    const OF_EACH: usize = 15;
+    let mut sheets: BTreeMap<(u8, u8), Vec<Vec<u8>>> = BTreeMap::new();
+    for Frame { sheet1, .. } in bounds::frames().into_iter().filter(|frame| frame.sheet1.len() <= 8_192) {
+        if let Err(refusal) = read(&sheet1) {
+            sheets.entry((refusal.number, refusal.flag)).or_default().push(sheet1);
+        }
+    }
+    let some = sheets.values().flat_map(|sheets| sheets.iter().step_by(sheets.len().div_ceil(OF_EACH)));
+    some.map(|sheet| fitting(sheet)).collect()
 }
 
 /// Nine, ten, ninety-nine and so on as the displacement, and as far as a pattern goes as a size and a first offset.

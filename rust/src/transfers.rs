@@ -8,13 +8,16 @@ use crate::element::END;
 use crate::figures::{layout_a, layout_b, layout_c, layout_f, whole_file};
 use crate::frame::{has_two_sheets, Frame, GATHER, MOVE, PAIR_MOVE, SCATTER};
 use crate::layout::{family, layout, run, Layout};
-use crate::windows::{from, late_pairs, pair, pairs, rows, Pair, REFUSED};
+use crate::shapes::fullest;
+use crate::windows::{from, fullest_pairs, late_pairs, pair, pairs, rows, Pair, REFUSED};
 use crate::write::sheet;
 
 pub const TRANSFERS: [u8; 4] = [GATHER, SCATTER, MOVE, PAIR_MOVE];
 
 pub fn frames() -> Vec<Frame> {
-    [accepted(), all_pairs(), refused(), lengths(), windows_at_the_end(), indexes(), refused_sheets(), long_buffers()].concat()
+    let accepted = [accepted(), all_pairs(), long_buffers(), of_the_fullest()];
+    let refused = [refused(), lengths(), windows_at_the_end(), indexes(), refused_sheets()];
+    accepted.into_iter().chain(refused).flatten().collect()
 }
 
 /// What a call carries between the pair's layouts; gather and scatter are of the first element alone.
@@ -227,4 +230,15 @@ fn long_buffers() -> Vec<Frame> {
         fitting(SCATTER, &seldom, (50, 2_500)),
         fitting(MOVE, &doubled, (END - 2_300, END)),
     ]
+}
+
+/// A layout at every bound, as the only one, the first and the second.
+fn of_the_fullest() -> Vec<Frame> {
+    let pairs = fullest_pairs();
+    let (_, window) = pairs[1];
+    let mut out = vec![fitting(GATHER, &alone(&fullest(), 0), window), fitting(SCATTER, &alone(&fullest(), 15), window)];
+    for (pair, window) in &pairs {
+        out.extend([MOVE, PAIR_MOVE].map(|call| fitting(call, pair, *window)));
+    }
+    out
 }

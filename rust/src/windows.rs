@@ -7,6 +7,7 @@ use crate::figures::{inner_pairs, inner_singles, layout_a, layout_b, layout_c, l
 use crate::frame::{Frame, LONGEST_BLOB};
 use crate::layout::{family, layout, run, Layout};
 use crate::runs;
+use crate::shapes::{four_levels, fullest, sixteen};
 use crate::write::sheet;
 
 /// Two elements, each of a layout of its own.
@@ -33,9 +34,9 @@ impl Pair {
         runs::shared(&self.element(0), &self.element(1), (a, b)).len() as u64
     }
 
-    /// Windows that are accepted: empty, short, across either pattern's border, and up to the file's end. A border is so far on that
-    /// nothing before it is BEFORE, even in a pattern of one byte.
-    pub fn windows(&self) -> [(u64, u64); 8] {
+    /// Windows that are accepted: empty, short, across either pattern's border, up to one, and up to the file's end. A border is so far on
+    /// that nothing before it is BEFORE, even in a pattern of one byte.
+    pub fn windows(&self) -> [(u64, u64); 10] {
         let start = self.start();
         let border = |side: usize| {
             let element = self.element(side);
@@ -49,7 +50,9 @@ impl Pair {
             (start + 1, start + 40),
             (border(0) - 3, border(0) + 5),
             (border(1) - 3, border(1) + 5),
+            (border(0) - self.element(0).period().min(30), border(0)),
             (END - 24, END),
+            (END - 1, END),
             (END, END),
         ]
     }
@@ -62,7 +65,7 @@ impl Pair {
 
 pub fn frames() -> Vec<Frame> {
     let pairs = pairs();
-    [pairs.iter().flat_map(accepted).collect(), refused(), rooms(), indexes(), refused_sheets(), long_lists()].concat()
+    [pairs.iter().flat_map(accepted).collect(), refused(), rooms(), indexes(), refused_sheets(), long_lists(), of_the_fullest()].concat()
 }
 
 pub fn pair(one: Layout, two: Layout, elements: [usize; 2]) -> Pair {
@@ -97,6 +100,7 @@ pub fn pairs() -> Vec<Pair> {
         pair(layout_c(), rows(), [1, 2]),
         pair(from(7, odd_and_even), from(65_534, halves), [1, 1]),
         pair(from(u32::MAX, layout_a()), from(u32::MAX - 1, layout_a()), [1, 1]),
+        pair(from(9, four_levels()), from(30, sixteen()), [1, 5]),
     ]
 }
 
@@ -199,4 +203,17 @@ fn long_lists() -> Vec<Frame> {
         pair.frame((0, 6 * 41), slots(4 * 40)),
         pair.frame((0, 200_000), slots(8)),
     ]
+}
+
+/// A layout at every bound, as the first and the second, each in a window across its pattern's border.
+pub fn fullest_pairs() -> [(Pair, (u64, u64)); 2] {
+    let border = u64::from(u32::MAX) + 65_536;
+    [
+        (pair(fullest(), four_levels(), [0, 3]), (border - 20, border + 60)),
+        (pair(sixteen(), fullest(), [2, 15]), (border - 50, border + 30)),
+    ]
+}
+
+fn of_the_fullest() -> Vec<Frame> {
+    fullest_pairs().map(|(pair, window)| pair.frame(window, slots(4 * pair.runs(window) + 2))).to_vec()
 }

@@ -4,8 +4,9 @@ use comparison::calls::{answer, KNOWN};
 use comparison::frame::{has_two_sheets, Answer, Frame};
 use comparison::frame::{CHECK, EXACT, GATHER, INTERVAL_SPAN, INVERSE, LISTING, MOVE, NEXT, PAIR_MOVE, SCATTER, SHARED_RUNS};
 use comparison::generate::{bad_end, by_chance, frames, BAD_ENDS, CALLS, KEPT};
-use comparison::refusal::{BEFORE, BUFFER, ELEMENT, FAR, FOREIGN, HOLE, NO_FLAG, OVERLAP, ROOM, WINDOW};
+use comparison::refusal::{BEFORE, BUFFER, COVER, ELEMENT, FAR, FOREIGN, HOLE, NO_FLAG, OVERLAP, ROOM, WINDOW};
 use comparison::transfers::TRANSFERS;
+use comparison::unused::{self, with_unused};
 use std::sync::OnceLock;
 
 /// How often each refusal is to be met, by call 1 in a sheet and by the other calls in what else they check.
@@ -42,6 +43,16 @@ fn as_many_frames_by_chance_as_asked_for() {
         for count in [1, 2, 3, 10, 77] {
             assert_eq!(frames(calls, 1, count).len(), fixed + count);
         }
+    }
+}
+
+/// Numbers 1 to 18, and both flags of 11, over all calls.
+#[test]
+fn every_refusal_is_met_often() {
+    let unflagged = (1..=18).filter(|number| *number != COVER).map(|number| (number, NO_FLAG));
+    for refusal in unflagged.chain([(COVER, HOLE), (COVER, OVERLAP)]) {
+        let met = kept().iter().filter(|(_, answer)| (answer.number, answer.flag) == refusal).count();
+        assert!(met >= OFTEN, "number {} with flag {} is met {met} times", refusal.0, refusal.1);
     }
 }
 
@@ -85,7 +96,7 @@ fn every_other_call_meets_its_own_refusals_often_and_no_others() {
 
 /// A refused sheet has a text, and so has an accepted one.
 #[test]
-fn listing_writes_every_line_and_refuses_a_buffer_alone() {
+fn listing_writes_every_line_often_and_refuses_a_buffer_alone() {
     let answers = answers(LISTING);
     let (written, refused): (Vec<&Answer>, Vec<&Answer>) = answers.iter().partition(|answer| answer.number == 0);
     assert!(refused.len() >= OFTEN && refused.iter().all(|answer| answer.number == BUFFER));
@@ -95,7 +106,7 @@ fn listing_writes_every_line_and_refuses_a_buffer_alone() {
     let numbers = (1..=10).map(|number| (format!("refused {number} at "), "\n"));
     let flags = [" hole\n", " overlap\n"].map(|end| (String::from("refused 11 at "), end));
     for (front, end) in numbers.chain(flags).chain([(String::from("layout displacement "), "\n")]) {
-        assert!(met(&front, end) >= 5, "'{front}' is met {} times", met(&front, end));
+        assert!(met(&front, end) >= 10, "'{front}' is met {} times", met(&front, end));
     }
 }
 
@@ -172,18 +183,37 @@ fn few_buffers_are_long() {
     }
 }
 
-/// What a call does not use is 0 or empty.
+/// What a call does not use is 0 or empty, but in the few frames that are there to fill it.
 #[test]
 fn a_frame_has_nothing_that_its_call_does_not_use() {
+    let filled = unused::frames();
+    assert!(filled.len() <= 50);
     for (frame, _) in kept() {
-        let uses = |calls: &[u8]| calls.contains(&frame.call) || TRANSFERS.contains(&frame.call);
-        assert!(frame.sheet2.is_empty() || has_two_sheets(frame.call));
-        assert!(frame.i == 0 || ![CHECK, MOVE, LISTING].contains(&frame.call));
-        assert!(frame.j == 0 || [PAIR_MOVE, SHARED_RUNS].contains(&frame.call));
-        assert!(frame.a == 0 || ![CHECK, LISTING].contains(&frame.call));
-        assert!(frame.b == 0 || uses(&[INTERVAL_SPAN, SHARED_RUNS]));
-        assert!(frame.from.is_empty() || uses(&[]));
-        assert!(frame.into.is_empty() || uses(&[SHARED_RUNS, LISTING]));
+        assert!(with_unused(frame, &Frame::default()) == *frame || filled.contains(frame));
+    }
+}
+
+#[test]
+fn what_a_call_does_not_use_changes_nothing() {
+    let filled = unused::frames();
+    for frame in &filled {
+        let plain = with_unused(frame, &Frame::default());
+        assert_ne!(plain, *frame);
+        // A buffer that is not used stays.
+        let into = if plain.into.is_empty() { frame.into.clone() } else { answer(&plain).into };
+        assert_eq!(answer(frame), Answer { into, ..answer(&plain) });
+    }
+    for call in KNOWN.into_iter().filter(|call| *call != PAIR_MOVE) {
+        let refused = |refused: bool| filled.iter().any(|frame| frame.call == call && (answer(frame).number > 0) == refused);
+        assert!(refused(false) && (refused(true) || call == LISTING), "call {call}");
+    }
+}
+
+#[test]
+fn the_kept_frames_are_many_of_every_call() {
+    assert!(kept().len() >= 5_000, "{} frames", kept().len());
+    for call in KNOWN {
+        assert!(answers(call).len() >= 300, "call {call}: {} frames", answers(call).len());
     }
 }
 
@@ -191,7 +221,7 @@ fn a_frame_has_nothing_that_its_call_does_not_use() {
 fn the_kept_frames_are_few_enough_to_keep() {
     let asked = kept().iter().filter(|(frame, _)| CALLS.contains(&frame.call));
     let bytes = asked.map(|(frame, _)| frame.bytes().len()).sum::<usize>() + bad_end(KEPT.0).len();
-    assert!(bytes < 2_000_000, "{bytes} bytes");
+    assert!(bytes < 2_500_000, "{bytes} bytes");
 }
 
 /// Of many seeds: two faults in one sheet must not stop the program that makes them, nor a window that is too long the one that answers.

@@ -2,12 +2,12 @@
 
 use comparison::bounds::one_of_each;
 use comparison::calls::answer;
-use comparison::edges::fullest;
 use comparison::figures::{inner_pairs, layout_c, layout_f, LISTING_F};
 use comparison::frame::{Answer, Frame};
 use comparison::layout::{layout, run, Layout};
 use comparison::listing::text;
 use comparison::refusal::BUFFER;
+use comparison::shapes::fullest;
 use comparison::write::sheet;
 
 fn listing(layout: &Layout) -> String {
@@ -69,9 +69,9 @@ fn the_line_of_every_refusal() {
     assert_eq!(listing(&many), "refused 5 at 5648\n");
 }
 
-/// 54 bytes for the layout; of each element 24 for the words, spaces and newline. Of the sixteen, the indexes have 22 digits. The sizes have
-/// 69, five times five and eleven times four, since they add up to 65,536. The families have 33, three and fifteen times two, since
-/// they add up to 256. The first offsets have 76, since one is 0.
+/// 54 bytes for the layout's line, and 24 for the words, spaces and newline of each element's. Of the sixteen, the indexes have 22 digits.
+/// The sizes have 69, five times five and eleven times four: they add up to 65,536. The families have 33, three and fifteen times two: they
+/// add up to 256. The first offsets have 76: one of them is 0.
 #[test]
 fn the_longest_text_has_638_bytes() {
     assert_eq!(listing(&fullest()).len(), 54 + 16 * 24 + 22 + 69 + 33 + 76);
