@@ -19,6 +19,7 @@ pub const CALLS: &[u8] = &[
     frame::MOVE,
     frame::PAIR_MOVE,
     frame::SHARED_RUNS,
+    frame::LISTING,
 ];
 
 /// The seed and count of the frames that are kept beside the program `answers`. The seed also picks their bad end: one that is too long.
