@@ -74,49 +74,53 @@ fn segments() -> Vec<Layout> {
 }
 
 /// Last bytes at the bound, one past it, and where 32 or 64 bits would wrap to a small number.
+const TOP_SPANS: [(u32, u32, u32, u32); 22] = [
+    (0, 65_535, 0, 1),
+    (0, 65_536, 0, 1),
+    (65_535, 65_535, 0, 1),
+    (65_536, 65_536, 0, 1),
+    (0, 0, 1, 65_536),
+    (0, 0, 1, 65_537),
+    (0, 1, 2, 32_768),
+    (1, 2, 2, 32_768),
+    (0, 255, 256, 256),
+    (0, 255, 256, 257),
+    (0, 0, 1 << 31, 3),
+    (0, 0, 1 << 16, 65_537),
+    (0, 1, 1 << 16, 65_537),
+    (MAX, MAX, 0, 1),
+    (0, MAX, 0, 1),
+    (MAX, MAX, MAX, MAX),
+    (0, 0, MAX, MAX),
+    (0, 0, MAX, 2),
+    (1, 1, MAX, 2),
+    (0, 0, 1, MAX),
+    (0, 0, 2, 1 << 31),
+    (2, 2, MAX, MAX),
+];
+
+/// The same under a family whose segments have 8 bytes.
+const CHILD_SPANS: [(u32, u32, u32, u32); 12] = [
+    (0, 7, 0, 1),
+    (0, 8, 0, 1),
+    (7, 7, 0, 1),
+    (8, 8, 0, 1),
+    (0, 0, 7, 2),
+    (0, 0, 8, 2),
+    (0, 0, 1, 8),
+    (0, 0, 1, 9),
+    (8, 15, 0, 1),
+    (0, 65_535, 0, 1),
+    (0, 1, 1 << 31, 3),
+    (MAX, MAX, MAX, MAX),
+];
+
 fn spans() -> Vec<Layout> {
-    let tops = [
-        (0, 65_535, 0, 1),
-        (0, 65_536, 0, 1),
-        (65_535, 65_535, 0, 1),
-        (65_536, 65_536, 0, 1),
-        (0, 0, 1, 65_536),
-        (0, 0, 1, 65_537),
-        (0, 1, 2, 32_768),
-        (1, 2, 2, 32_768),
-        (0, 255, 256, 256),
-        (0, 255, 256, 257),
-        (0, 0, 1 << 31, 3),
-        (0, 0, 1 << 16, 65_537),
-        (0, 1, 1 << 16, 65_537),
-        (MAX, MAX, 0, 1),
-        (0, MAX, 0, 1),
-        (MAX, MAX, MAX, MAX),
-        (0, 0, MAX, MAX),
-        (0, 0, MAX, 2),
-        (1, 1, MAX, 2),
-        (0, 0, 1, MAX),
-        (0, 0, 2, 1 << 31),
-        (2, 2, MAX, MAX),
-    ];
-    let children = [
-        (0, 7, 0, 1),
-        (0, 8, 0, 1),
-        (7, 7, 0, 1),
-        (8, 8, 0, 1),
-        (0, 0, 7, 2),
-        (0, 0, 8, 2),
-        (0, 0, 1, 8),
-        (0, 0, 1, 9),
-        (8, 15, 0, 1),
-        (0, 65_535, 0, 1),
-        (0, 1, 1 << 31, 3),
-        (MAX, MAX, MAX, MAX),
-    ];
-    // 8 bytes a segment: a child fits one segment, and not the two of its parent, nor what its parent's offsets would leave.
+    let top = |(l, r, s, n)| single(family(l, r, s, n));
+    // A child fits one segment, and not the two of its parent, nor what its parent's offsets would leave.
     let inner = |(l, r, s, n)| single(family(0, 7, 8, 2).with(vec![family(l, r, s, n)]));
     let later = |(l, r, s, n)| element(vec![run(0, 7), run(8, 15).with(vec![family(l, r, s, n)])]);
-    tops.iter().map(|(l, r, s, n)| single(family(*l, *r, *s, *n))).chain(children.map(inner)).chain(children.map(later)).collect()
+    [TOP_SPANS.map(top).to_vec(), CHILD_SPANS.map(inner).to_vec(), CHILD_SPANS.map(later).to_vec()].concat()
 }
 
 /// Siblings that touch, meet, interlace or stand in the wrong order; families that are no siblings.
