@@ -1,23 +1,23 @@
--- The line that the program prints for layout F, as text: `0 0 0 0 6 3 -`; a number of more than one digit; a buffer of two bytes, and one with a slot and
+-- The line that the program prints for layout F; a number of more than one digit; a buffer of two bytes, and one with a slot and
 -- a byte behind it. Assumes nothing.
 use mathlib.Core.Path.{_≡_, refl}
 use mathlib.Core.List.{[], _∷_}
 use Rattle.sheets.specs.Bytes.{le16, le32}
+use Rattle.words.specs.Texts.{word, decimalIn, decimal}
 use Rattle.answers.specs.Numbers.{le64, lowest, slotsIn, slotsOf, slotBytes, withSlots}
-use Rattle.answers.specs.Lines.{decimalIn, decimal, field, fields, hex, buffer, line}
+use Rattle.answers.specs.Lines.{field, fields, hex, buffer, line}
 
 layout-f : line (record { number = 0; sheet = 0; place = 0; flag = 0; value = 6; value2 = 3 }) []
-    ≡ (48 ∷ 32 ∷ 48 ∷ 32 ∷ 48 ∷ 32 ∷ 48 ∷ 32 ∷ 54 ∷ 32 ∷ 51 ∷ 32 ∷ 45 ∷ 10 ∷ [])
-unfolding line fields field decimalIn buffer
+    ≡ word "0 0 0 0 6 3 -\n"
+unfolding word line fields field decimalIn buffer
 layout-f = refl
 
-panel-size : decimal 1920 ≡ (49 ∷ 57 ∷ 50 ∷ 48 ∷ [])
-unfolding decimalIn
+panel-size : decimal 1920 ≡ word "1920"
+unfolding word decimalIn
 panel-size = refl
 
--- `0aff`
-two-bytes : buffer (10 ∷ 255 ∷ []) ≡ (48 ∷ 97 ∷ 102 ∷ 102 ∷ [])
-unfolding buffer hex
+two-bytes : buffer (10 ∷ 255 ∷ []) ≡ word "0aff"
+unfolding word buffer hex
 two-bytes = refl
 
 -- the ninth byte belongs to no slot, and stays

@@ -7,8 +7,9 @@ use native.Mathlib.Omega.{arith}
 use lib.ListN.{length, take, set, getD, length-set}
 use lib.Seq.{take-suc, take-length}
 use Rattle.io.specs.Digits.{glyph}
-use Rattle.answers.specs.Lines.{hex, buffer, Put}
-use Rattle.answers.proofs.Fields.{put-byte, _then_}
+use Rattle.answers.specs.Lines.{hex, buffer}
+use Rattle.words.specs.Texts.{Put}
+use Rattle.words.proofs.Puts.{put-byte, _then_}
 
 hex-append : (xs ys : List ℕ) → hex (xs ++ ys) ≡ hex xs ++ hex ys
 unfolding hex

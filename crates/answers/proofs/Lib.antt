@@ -1,6 +1,5 @@
 pub mod Ends
 pub mod Texts
-pub mod Decimals
 pub mod Fields
 pub mod Hexes
 pub mod Slots

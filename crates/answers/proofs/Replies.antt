@@ -6,7 +6,6 @@ use Prim.Native.Nat.{ℕ, _/_}
 use borrow.Author.Tests.{eq-eqb, ne-eqb}
 use lib.Dec.{eqb}
 use lib.ListN.{length}
-use Rattle.astrephon.specs.declared.Carried.{Carried}
 use Rattle.astrephon.specs.declared.Listed.{Listed}
 use Rattle.astrephon.specs.Refusals.{Outcome}
 use Rattle.astrephon.specs.Shares.{sharedCall}
@@ -16,7 +15,7 @@ use Rattle.answers.specs.declared.calls.Reply.the-variants.{Told, Unknow
 use Rattle.answers.specs.Frames.{callOf, iOf, jOf, aOf, bOf, end4, Whole, sheet1, sheet2, intoOf}
 use Rattle.answers.specs.Numbers.{slotsIn, slotsOf, withSlots}
 use Rattle.answers.specs.Lines.{line}
-use Rattle.answers.specs.Replies.{ofListed, ofCarried, leaving, telling, carriedOutcome, listing, sharedOutcome, replyTo, lineOf, lineLeft, reply}
+use Rattle.answers.specs.Replies.{ofListed, leaving, telling, told, sharing, sharedOutcome, replyTo, lineOf, lineLeft, reply}
 
 -- what a call of a number leaves is what is replied to it
 replied : (xs into : List ℕ) {o : Outcome Reply} {k call : ℕ} → call ≡ k → replyTo k xs into ≡ o → o ≡ replyTo call xs into
@@ -31,25 +30,25 @@ pub replied-left : (xs into : List ℕ) {o p : Outcome Answer} {k call : ℕ} �
 replied-left xs into e is to = ap telling e ∙ replied xs into is to
 
 pub replied-unknown : (call : ℕ) (xs into : List ℕ) → (call ≡ 1 → ⊥) → (call ≡ 2 → ⊥) → (call ≡ 3 → ⊥) → (call ≡ 4 → ⊥) → (call ≡ 5 → ⊥)
-    → (call ≡ 6 → ⊥) → (call ≡ 7 → ⊥) → (call ≡ 8 → ⊥) → (call ≡ 9 → ⊥) → (call ≡ 10 → ⊥) → leaving Unknown into ≡ replyTo call xs into
+    → (call ≡ 6 → ⊥) → (call ≡ 7 → ⊥) → (call ≡ 8 → ⊥) → (call ≡ 9 → ⊥) → (call ≡ 10 → ⊥) → (call ≡ 11 → ⊥) → leaving Unknown into ≡ replyTo call xs into
 unfolding replyTo
-replied-unknown call xs into n1 n2 n3 n4 n5 n6 n7 n8 n9 n10 =
+replied-unknown call xs into n1 n2 n3 n4 n5 n6 n7 n8 n9 n10 n11 =
     rw (ne-eqb call 1 n1, ne-eqb call 2 n2, ne-eqb call 3 n3, ne-eqb call 4 n4, ne-eqb call 5 n5)
-    (rw (ne-eqb call 6 n6, ne-eqb call 7 n7, ne-eqb call 8 n8, ne-eqb call 9 n9, ne-eqb call 10 n10) refl)
+    (rw (ne-eqb call 6 n6, ne-eqb call 7 n7, ne-eqb call 8 n8, ne-eqb call 9 n9, ne-eqb call 10 n10, ne-eqb call 11 n11) refl)
 
--- a call that carries bytes, and was made on what the frame says
-pub carried-left : {o p : Outcome Carried} {answered : Carried} {answer : Answer} {later : List ℕ} → o ≡ p → answered ≡ o .answer → later ≡ o .later
-    → answer ≡ ofCarried answered → leaving answer later ≡ carriedOutcome p
-carried-left made said left told =
-    let first = told ∙ ap ofCarried (said ∙ ap (λ (o : Outcome Carried). o .answer) made) in
-    let second = left ∙ ap (λ (o : Outcome Carried). o .later) made in
+-- a call on the destination buffer that was made on what the frame says
+pub told-left : {A : Type 0} (of : A → Answer) {o p : Outcome A} {answered : A} {answer : Answer} {later : List ℕ} → o ≡ p → answered ≡ o .answer → later ≡ o .later
+    → answer ≡ of answered → leaving answer later ≡ told of p
+told-left {A} of made said left is =
+    let first = is ∙ ap of (said ∙ ap (λ (o : Outcome A). o .answer) made) in
+    let second = left ∙ ap (λ (o : Outcome A). o .later) made in
     λ t. leaving (first t) (second t)
 
 -- shared runs: the buffer's slots were taken as the list, and what the call left in it was put back
 module _ (xs into : List ℕ) {sheet sheet' slots : List ℕ} {i j a b n : ℕ}
     (long : n ≡ length into / 8) (taken : slots ≡ slotsIn n into) (one : sheet ≡ sheet1 xs) (two : sheet' ≡ sheet2 xs)
     (is-i : i ≡ iOf xs) (is-j : j ≡ jOf xs) (is-a : a ≡ aOf xs) (is-b : b ≡ bOf xs) where
-  called : sharedCall sheet sheet' i j a b slots ≡ listing xs (slotsOf into)
+  called : sharedCall sheet sheet' i j a b slots ≡ sharing xs (slotsOf into)
   called = cc
 
   pub shared-left : {later after : List ℕ} {answered : Listed} {answer : Answer} → answered ≡ sharedCall sheet sheet' i j a b slots .answer
@@ -57,8 +56,8 @@ module _ (xs into : List ℕ) {sheet sheet' slots : List ℕ} {i j a b n : ℕ}
       → leaving answer after ≡ sharedOutcome xs into
   unfolding sharedOutcome
   shared-left {later} {after} {answered} {answer} said left put told =
-      let first : answer ≡ ofListed (listing xs (slotsOf into) .answer) = told ∙ ap ofListed (said ∙ ap (λ (o : Outcome Listed). o .answer) called) in
-      let second : after ≡ withSlots (listing xs (slotsOf into) .later) into =
+      let first : answer ≡ ofListed (sharing xs (slotsOf into) .answer) = told ∙ ap ofListed (said ∙ ap (λ (o : Outcome Listed). o .answer) called) in
+      let second : after ≡ withSlots (sharing xs (slotsOf into) .later) into =
       put ∙ ap (λ (l : List ℕ). withSlots l into) (left ∙ ap (λ (o : Outcome Listed). o .later) called) in
       λ t. leaving (first t) (second t)
 

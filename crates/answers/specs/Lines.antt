@@ -1,21 +1,9 @@
 -- An answer as a line of text. Assumes nothing: these are definitions.
-use mathlib.Core.Path.{_≡_}
-use mathlib.Core.Bool.{cond}
 use mathlib.Core.List.{List, [], _∷_, _++_}
-use Prim.Native.Nat.{ℕ, zero, suc, _+_, _*_, _/_, _%_, _≤_}
-use lib.Dec.{ltb}
-use lib.ListN.{length, take}
+use Prim.Native.Nat.{ℕ, _+_, _*_, _/_, _%_, _≤_}
 use Rattle.io.specs.Digits.{glyph}
+use Rattle.words.specs.Texts.{decimal}
 use Rattle.answers.specs.declared.lines.Answer.{Answer}
-
--- n in decimal, in at most k digits: the digits of n / 10, if there are any, and the last one
-unfoldable pub decimalIn : (k n : ℕ) → List ℕ
-decimalIn zero n = []
-decimalIn (suc k) n = cond (ltb n 10) [] (decimalIn k (n / 10)) ++ ((48 + n % 10) ∷ [])
-
--- a number of 64 bits has 20 digits at most
-abbrev pub decimal : ℕ → List ℕ
-decimal n = decimalIn 20 n
 
 -- a number and the space after it
 unfoldable pub field : ℕ → List ℕ
@@ -38,12 +26,6 @@ buffer (b ∷ bs) = hex (b ∷ bs)
 -- THE LINE: `number sheet place flag value value2 into` and a line end, where `into` is the destination buffer after the call
 unfoldable pub line : Answer → (into : List ℕ) → List ℕ
 line a into = fields a ++ (buffer into ++ (10 ∷ []))
-
--- the piece was put at `at`, and ends at r, which is `most` bytes on at most
-pub record Put (piece : List ℕ) (most at r : ℕ) (before after : List ℕ) : Type 0 where
-  pub text : take r after ≡ take at before ++ piece
-  pub short : r ≤ at + most
-  pub kept : length after ≡ length before
 
 -- there is room for the answer to a frame of some length: for its destination buffer, and for its line. No frame is longer than the longest
 pub record Room (frame space text : ℕ) : Type 0 where

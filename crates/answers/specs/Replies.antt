@@ -17,12 +17,15 @@ use Rattle.astrephon.specs.declared.Listed.{Listed}
 use Rattle.astrephon.specs.declared.Listed.the-variants as listed
 use Rattle.astrephon.specs.declared.Carried.{Carried}
 use Rattle.astrephon.specs.declared.Carried.the-variants as carried
+use Rattle.astrephon.specs.declared.Written.{Written}
+use Rattle.astrephon.specs.declared.Written.the-variants as written
 use Rattle.astrephon.specs.Refusals.{Outcome}
 use Rattle.astrephon.specs.Check.{checkCall}
 use Rattle.astrephon.specs.Maps.{exactCall, nextCall, inverseCall, spanCall}
 use Rattle.astrephon.specs.Shares.{sharedCall}
 use Rattle.astrephon.specs.Carries.{gatheredCall, scatteredCall}
 use Rattle.astrephon.specs.Moves.{movedCall, pairMovedCall}
+use Rattle.astrephon.specs.Texts.{writtenCall}
 use Rattle.answers.specs.declared.lines.Answer.{Answer}
 use Rattle.answers.specs.declared.calls.Reply.{Reply}
 use Rattle.answers.specs.declared.calls.Reply.the-variants.{Told, Unknown}
@@ -65,6 +68,11 @@ unfoldable pub ofCarried : Carried → Answer
 ofCarried carried.Done = done 0 0
 ofCarried (carried.Refused r) = refused r
 
+-- the value of a listing is its length
+unfoldable pub ofWritten : Written → Answer
+ofWritten (written.Bytes n) = done n 0
+ofWritten (written.Refused r) = refused r
+
 -- the calls' numbers
 abbrev pub CHECK : ℕ
 CHECK = 1
@@ -96,6 +104,9 @@ PAIR-MOVE = 9
 abbrev pub SHARED-RUNS : ℕ
 SHARED-RUNS = 10
 
+abbrev pub LISTING : ℕ
+LISTING = 11
+
 -- what the calls that write no buffer answer to a frame
 abbrev pub checkAnswer : List ℕ → Answer
 checkAnswer xs = ofChecked (checkCall (sheet1 xs))
@@ -116,30 +127,34 @@ spanAnswer xs = ofSpanned (spanCall (sheet1 xs) (iOf xs) (aOf xs) (bOf xs))
 abbrev pub leaving : {A : Type 0} → A → (later : List ℕ) → Outcome A
 leaving answer later = record { answer = answer; later = later }
 
--- the calls that carry bytes are made on the destination buffer itself
-abbrev pub carriedOutcome : Outcome Carried → Outcome Answer
-carriedOutcome o = leaving (ofCarried (o .answer)) (o .later)
+-- what a call leaves that is made on the destination buffer itself
+abbrev pub told : {A : Type 0} → (of : A → Answer) → Outcome A → Outcome Answer
+told of o = leaving (of (o .answer)) (o .later)
 
 -- one element's bytes, from a file buffer into a packed one and back
 abbrev pub gatherOutcome : List ℕ → (into : List ℕ) → Outcome Answer
-gatherOutcome xs into = carriedOutcome (gatheredCall (sheet1 xs) (iOf xs) (aOf xs) (bOf xs) (fromOf xs) into)
+gatherOutcome xs into = told ofCarried (gatheredCall (sheet1 xs) (iOf xs) (aOf xs) (bOf xs) (fromOf xs) into)
 
 abbrev pub scatterOutcome : List ℕ → (into : List ℕ) → Outcome Answer
-scatterOutcome xs into = carriedOutcome (scatteredCall (sheet1 xs) (iOf xs) (aOf xs) (bOf xs) (fromOf xs) into)
+scatterOutcome xs into = told ofCarried (scatteredCall (sheet1 xs) (iOf xs) (aOf xs) (bOf xs) (fromOf xs) into)
 
 -- from a tray of sheet 1's layout into one of sheet 2's: all bytes, and those that two elements share
 abbrev pub moveOutcome : List ℕ → (into : List ℕ) → Outcome Answer
-moveOutcome xs into = carriedOutcome (movedCall (sheet1 xs) (sheet2 xs) (aOf xs) (bOf xs) (fromOf xs) into)
+moveOutcome xs into = told ofCarried (movedCall (sheet1 xs) (sheet2 xs) (aOf xs) (bOf xs) (fromOf xs) into)
 
 abbrev pub pairMoveOutcome : List ℕ → (into : List ℕ) → Outcome Answer
-pairMoveOutcome xs into = carriedOutcome (pairMovedCall (sheet1 xs) (sheet2 xs) (iOf xs) (jOf xs) (aOf xs) (bOf xs) (fromOf xs) into)
+pairMoveOutcome xs into = told ofCarried (pairMovedCall (sheet1 xs) (sheet2 xs) (iOf xs) (jOf xs) (aOf xs) (bOf xs) (fromOf xs) into)
 
 -- shared runs: the list is the buffer's whole slots. What the call leaves in them is put back; bytes behind the last whole slot stay
-abbrev pub listing : List ℕ → (slots : List ℕ) → Outcome Listed
-listing xs slots = sharedCall (sheet1 xs) (sheet2 xs) (iOf xs) (jOf xs) (aOf xs) (bOf xs) slots
+abbrev pub sharing : List ℕ → (slots : List ℕ) → Outcome Listed
+sharing xs slots = sharedCall (sheet1 xs) (sheet2 xs) (iOf xs) (jOf xs) (aOf xs) (bOf xs) slots
 
 unfoldable pub sharedOutcome : List ℕ → (into : List ℕ) → Outcome Answer
-sharedOutcome xs into = leaving (ofListed (listing xs (slotsOf into) .answer)) (withSlots (listing xs (slotsOf into) .later) into)
+sharedOutcome xs into = leaving (ofListed (sharing xs (slotsOf into) .answer)) (withSlots (sharing xs (slotsOf into) .later) into)
+
+-- the listing of sheet 1
+abbrev pub listingOutcome : List ℕ → (into : List ℕ) → Outcome Answer
+listingOutcome xs into = told ofWritten (writtenCall (sheet1 xs) into)
 
 -- what a call replies to a frame, where the destination buffer holds `into`
 abbrev pub telling : Outcome Answer → Outcome Reply
@@ -157,7 +172,8 @@ replyTo call xs into =
     (cond (eqb call MOVE) (telling (moveOutcome xs into))
     (cond (eqb call PAIR-MOVE) (telling (pairMoveOutcome xs into))
     (cond (eqb call SHARED-RUNS) (telling (sharedOutcome xs into))
-    (leaving Unknown into))))))))))
+    (cond (eqb call LISTING) (telling (listingOutcome xs into))
+    (leaving Unknown into)))))))))))
 
 -- the line of what is replied and left, and nothing where there is no such call
 unfoldable pub lineOf : Reply → (into : List ℕ) → List ℕ

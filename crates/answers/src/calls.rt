@@ -5,7 +5,7 @@ ghost use lib.ListN.{length, take};
 ghost use Rattle.io.specs.Counts.{Counts};
 ghost use Rattle.answers.specs.Frames.{callOf, Whole, intoOf};
 ghost use Rattle.answers.specs.Lines.{Room};
-ghost use Rattle.answers.specs.Replies.{checkAnswer, exactAnswer, nextAnswer, inverseAnswer, spanAnswer, leaving, sharedOutcome, replyTo, reply};
+ghost use Rattle.answers.specs.Replies.{checkAnswer, exactAnswer, nextAnswer, inverseAnswer, spanAnswer, leaving, sharedOutcome, listingOutcome, replyTo, reply};
 use crate::carrying;
 use crate::frames;
 use crate::lines;
@@ -34,6 +34,8 @@ const MOVE: u8 = 8;
 const PAIR_MOVE: u8 = 9;
 
 const SHARED_RUNS: u8 = 10;
+
+const LISTING: u8 = 11;
 
 // What is replied to a call.
 enum Reply {
@@ -117,6 +119,14 @@ fn shared_runs(frame: &[u8], into: &mut [u8]) -> Answer
     list_runs(frame, into, &mut list[..slots])
 }
 
+// The listing of a sheet, into the destination buffer.
+fn list_sheet(frame: &[u8], into: &mut [u8]) -> Answer
+    requires { ⌜ Whole (now frame) ⌝ }
+    ensures { λ r. ⌜ leaving r (now (into .exit)) ≡ listingOutcome (now (frame .entry)) (now (into .entry)) ⌝ }
+{
+    told::of_written(astrephon::list_sheet(frames::sheet1(frame), into))
+}
+
 // Makes the frame's call on the destination buffer.
 fn reply_to(frame: &[u8], into: &mut [u8]) -> Reply
     requires { ⌜ Whole (now frame) ⌝ ∗ ⌜ length (now into) ≤ 65536 ⌝ }
@@ -133,6 +143,7 @@ fn reply_to(frame: &[u8], into: &mut [u8]) -> Reply
         MOVE => Reply::Told(carrying::move_tray(frame, into)),
         PAIR_MOVE => Reply::Told(carrying::move_pair(frame, into)),
         SHARED_RUNS => Reply::Told(shared_runs(frame, into)),
+        LISTING => Reply::Told(list_sheet(frame, into)),
         _ => Reply::Unknown,
     }
 }
@@ -143,7 +154,8 @@ fn put_reply(frame: &[u8], into: &mut [u8], text: &mut [u8]) -> usize
         ∗ ⌜ length (now into) ≤ 65536 ⌝ ∗ ⌜ 128 + 2 * length (now into) ≤ length (now text) ⌝ }
     ensures { λ r. ⌜ (take r (now (text .exit)) ≡ reply (now (frame .entry))) × Counts r (now (text .exit)) ⌝ }
 {
-    lines::put(frames::into(frame), into, 0);
+    let size = into.len();
+    copies::copy_run(frames::into(frame), 0, into, 0, size);
     let Reply::Told(told) = reply_to(frame, into) else {
         return 0;
     };

@@ -2,10 +2,10 @@
 ghost use mathlib.Core.Path.{_≡_};
 ghost use Prim.Native.Nat.{_+_, _*_, _≤_, _<_};
 ghost use lib.ListN.{length, take};
-ghost use lib.Seq.{paste};
 ghost use Rattle.io.specs.Counts.{Counts};
 ghost use Rattle.io.specs.Digits.{glyph};
-ghost use Rattle.answers.specs.Lines.{Put, field, fields, hex, buffer, line};
+ghost use Rattle.words.specs.Texts.{Put};
+ghost use Rattle.answers.specs.Lines.{field, fields, hex, buffer, line};
 
 // The longest line: six numbers of 20 digits, a space after each, two digits for each byte of a buffer that is no longer than its frame, or its `-`,
 // and the line's end.
@@ -21,28 +21,14 @@ pub struct Answer {
     pub value2: u64,
 }
 
-// Puts `piece` into `text` at `at`.
-pub fn put(piece: &[u8], text: &mut [u8], at: usize)
-    requires { ⌜ at + length (now piece) ≤ length (now text) ⌝ }
-    ensures { λ _. ⌜ now (text .exit) ≡ paste (now (text .entry)) at (now (piece .entry)) (length (now (piece .entry))) ⌝ }
-{
-    let mut i = 0;
-    while i < piece.len() {
-        text[at + i] = piece[i];
-        i += 1;
-    }
-}
-
 // Puts n in decimal and a space into `text` at `at`, and answers where they end.
-fn put_number(n: u64, text: &mut [u8], at: usize) -> usize
+fn put_field(n: u64, text: &mut [u8], at: usize) -> usize
     requires { ⌜ at + 21 ≤ length (now text) ⌝ }
     ensures { λ r. ⌜ Put (field n) 21 at r (now (text .entry)) (now (text .exit)) ⌝ }
 {
-    let mut digits = [0u8; 20];
-    let k = io::decimal(n, &mut digits);
-    put(&digits[..k], text, at);
-    text[at + k] = b' ';
-    at + k + 1
+    let end = words::put_number(n, text, at);
+    text[end] = b' ';
+    end + 1
 }
 
 // Puts the answer's numbers into `text`, and answers where they end.
@@ -50,12 +36,12 @@ fn put_numbers(answer: Answer, text: &mut [u8]) -> usize
     requires { ⌜ 126 ≤ length (now text) ⌝ }
     ensures { λ r. ⌜ Put (fields answer) 126 0 r (now (text .entry)) (now (text .exit)) ⌝ }
 {
-    let end1 = put_number(answer.number, text, 0);
-    let end2 = put_number(answer.sheet, text, end1);
-    let end3 = put_number(answer.place, text, end2);
-    let end4 = put_number(answer.flag, text, end3);
-    let end5 = put_number(answer.value, text, end4);
-    put_number(answer.value2, text, end5)
+    let end1 = put_field(answer.number, text, 0);
+    let end2 = put_field(answer.sheet, text, end1);
+    let end3 = put_field(answer.place, text, end2);
+    let end4 = put_field(answer.flag, text, end3);
+    let end5 = put_field(answer.value, text, end4);
+    put_field(answer.value2, text, end5)
 }
 
 // The character of a digit of base 16.

@@ -1,6 +1,6 @@
 // What each kind of answer tells, as the numbers of a line.
 ghost use mathlib.Core.Path.{_≡_};
-ghost use Rattle.answers.specs.Replies.{ofChecked, ofMapped, ofLocated, ofSpanned, ofListed, ofCarried};
+ghost use Rattle.answers.specs.Replies.{ofChecked, ofMapped, ofLocated, ofSpanned, ofListed, ofCarried, ofWritten};
 ghost use Rattle.answers.specs.Replies.{done as Replies·done, refused as Replies·refused};
 use crate::lines::Answer;
 use astrephon::Carried;
@@ -10,6 +10,7 @@ use astrephon::Located;
 use astrephon::Mapped;
 use astrephon::Refusal;
 use astrephon::Spanned;
+use astrephon::Written;
 
 // A call that did its work.
 fn done(value: u64, value2: u64) -> Answer
@@ -91,5 +92,15 @@ pub fn of_carried(carried: Carried) -> Answer
     match carried {
         Carried::Done => done(0, 0),
         Carried::Refused(refusal) => refused(refusal),
+    }
+}
+
+// The value of a listing is its length.
+pub fn of_written(written: Written) -> Answer
+    ensures { λ r. ⌜ r ≡ ofWritten written ⌝ }
+{
+    match written {
+        Written::Bytes(n) => done(n, 0),
+        Written::Refused(refusal) => refused(refusal),
     }
 }

@@ -9,6 +9,7 @@ pub mod Mappings
 pub mod Listings
 pub mod Transfers
 pub mod TrayMoves
+pub mod Texts
 pub mod Unique
 pub mod Accepting
 pub mod Trays

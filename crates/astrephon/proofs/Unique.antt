@@ -9,12 +9,14 @@ use Rattle.astrephon.specs.declared.Spanned.{Spanned}
 use Rattle.astrephon.specs.declared.Listed.{Listed}
 use Rattle.astrephon.specs.declared.Measured.{Measured}
 use Rattle.astrephon.specs.declared.Carried.{Carried}
+use Rattle.astrephon.specs.declared.Written.{Written}
 use Rattle.astrephon.specs.Refusals.{Outcome}
 use Rattle.astrephon.specs.Check.{checkCall}
 use Rattle.astrephon.specs.Maps.{exactCall, nextCall, inverseCall, spanCall}
 use Rattle.astrephon.specs.Shares.{sharedCall}
 use Rattle.astrephon.specs.Carries.{measuredCall, gatheredCall, scatteredCall}
 use Rattle.astrephon.specs.Moves.{movedCall, pairMovedCall}
+use Rattle.astrephon.specs.Texts.{writtenCall}
 
 pub check-unique : (xs : List ℕ) (a b : Checked) → a ≡ checkCall xs → b ≡ checkCall xs → a ≡ b
 check-unique xs a b p q = p ∙ sym q
@@ -58,3 +60,7 @@ moved-unique xs ys s z t held = both-same (movedCall xs ys s z t held)
 pub pair-moved-unique : (xs ys : List ℕ) (i j s z : ℕ) (t held : List ℕ) → let done = pairMovedCall xs ys i j s z t held in (a b : Carried) (later later′ : List ℕ)
     → a ≡ done .answer → later ≡ done .later → b ≡ done .answer → later′ ≡ done .later → (a ≡ b) × (later ≡ later′)
 pair-moved-unique xs ys i j s z t held = both-same (pairMovedCall xs ys i j s z t held)
+
+pub written-unique : (xs held : List ℕ) → let done = writtenCall xs held in (a b : Written) (later later′ : List ℕ)
+    → a ≡ done .answer → later ≡ done .later → b ≡ done .answer → later′ ≡ done .later → (a ≡ b) × (later ≡ later′)
+written-unique xs held = both-same (writtenCall xs held)

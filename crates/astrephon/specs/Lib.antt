@@ -5,6 +5,7 @@ pub mod Maps
 pub mod Shares
 pub mod Carries
 pub mod Moves
+pub mod Texts
 pub mod Sequences
 pub mod Openings
 pub mod Said

@@ -17,6 +17,8 @@ use Rattle.astrephon.specs.declared.Measured.{Measured}
 use Rattle.astrephon.specs.declared.Measured.the-variants as measured
 use Rattle.astrephon.specs.declared.Carried.{Carried}
 use Rattle.astrephon.specs.declared.Carried.the-variants as carried
+use Rattle.astrephon.specs.declared.Written.{Written}
+use Rattle.astrephon.specs.declared.Written.the-variants as written
 use Rattle.astrephon.specs.Refusals.{Outcome}
 
 pub record Said : Type 0 where
@@ -69,3 +71,10 @@ carriedSays (carried.Refused r) = refusalSays r
 
 abbrev pub movedSays : Outcome Carried → Said
 movedSays o = holding (carriedSays (o .answer)) (o .later)
+
+unfoldable pub writtenSays : Written → Said
+writtenSays (written.Bytes n) = done (n ∷ [])
+writtenSays (written.Refused r) = refusalSays r
+
+abbrev pub textSays : Outcome Written → Said
+textSays o = holding (writtenSays (o .answer)) (o .later)

@@ -1,10 +1,11 @@
 // Astrephon: THE CALLS. Each takes every input, and does its work or gives one refusal of 01's table; none asks anything of its caller.
 //
 // `checking` answers for one sheet, `mapping` maps offsets between the file and one element's subfile, `sharing` lists what two elements share,
-// `carrying` moves one element's bytes and `moving` bytes between trays; `opened` is how the calls begin, `ranges` what is checked of indexes, offsets and
+// `carrying` moves one element's bytes and `moving` bytes between trays, `listing` writes a sheet's listing; `opened` is how the calls begin, `ranges` what is checked of indexes, offsets and
 // lengths.
 mod carrying;
 mod checking;
+mod listing;
 mod mapping;
 mod moving;
 mod opened;
@@ -17,6 +18,8 @@ pub use carrying::scatter;
 pub use checking::check;
 pub use families::FileOffset;
 pub use families::SubfileOffset;
+pub use lines::LONGEST_LISTING;
+pub use listing::list_sheet;
 pub use mapping::exact;
 pub use mapping::inverse;
 pub use mapping::next;
@@ -106,6 +109,12 @@ pub enum Listed {
 
 // The answer to a packed length.
 pub enum Measured {
+    Bytes(u64),
+    Refused(Refusal),
+}
+
+// The answer to a sheet's listing: how many bytes of the buffer it is.
+pub enum Written {
     Bytes(u64),
     Refused(Refusal),
 }

@@ -7,4 +7,4 @@ mod listing;
 pub use listing::put_listing;
 
 // No listing is longer: a line for the layout and 16 for elements, with 20 digits for every number.
-pub const LONGEST: usize = 1761;
+pub const LONGEST_LISTING: usize = 1761;

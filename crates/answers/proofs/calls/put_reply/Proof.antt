@@ -9,20 +9,21 @@ use borrow.Author.Needs.{needs}
 use Rattle.answers.proofs.calls.put_reply.Statement.{statement}
 use Rattle.answers.proofs.calls.put_reply.Tie as tie
 
-abbrev start : tie.After-put → tie.Start
+abbrev start : tie.After-copy-run → tie.Start
 start c = c .before .before .before .before .before .before
 
 -- the call is made on a copy of the frame's destination buffer
-copied : (c : tie.After-put) → c .put .last .1 .0 ≡ intoOf (start c .args .frame .now)
+copied : (c : tie.After-copy-run) → c .copy-run .last .1 .1 .0 ≡ intoOf (start c .args .frame .now)
 copied c =
     let lent = c .before .before .into in
-    c .put .ensures ∙ paste-over _ _ (ap length (lent .ensures) ∙ sym (start c .pre .1 .0)) ∙ lent .ensures
+    let held = start c .args .into .now in
+    c .copy-run .ensures ∙ paste-over held (lent .result .now) (length held) refl (start c .pre .1 .0 ∙ sym (ap length (lent .ensures))) ∙ lent .ensures
 
 into-requires : tie.Need-into-requires
 into-requires c κs = search needs
 
-put-requires : tie.Need-put-requires
-put-requires c κs = omega (arith, ap length (c .before .into .ensures), c .before .before .before .before .before .pre .1 .0)
+copy-run-requires : tie.Need-copy-run-requires
+copy-run-requires c κs = omega (arith, ap length (c .before .into .ensures), c .before .before .before .before .before .pre .1 .0)
 
 reply-to-requires : tie.Need-reply-to-requires
 reply-to-requires c κs = search needs
@@ -66,7 +67,7 @@ put-reply-spec =
     tie.close
     (tie.spec
     into-requires
-    put-requires
+    copy-run-requires
     reply-to-requires
     enum-known-told
     enum-told

@@ -41,6 +41,9 @@ move-pair-requires c κs = search needs
 shared-runs-requires : tie.Need-shared-runs-requires
 shared-runs-requires c κs = search needs
 
+list-sheet-requires : tie.Need-list-sheet-requires
+list-sheet-requires c κs = search needs
+
 returns : tie.Need-returns
 unfolding replyTo
 returns c = replied-told _ _ (c .check .ensures) (c .before .match .keys1) refl
@@ -96,12 +99,19 @@ returns-10 : tie.Need-returns-10
 unfolding replyTo
 returns-10 c = replied-left _ _ (c .before .before .shared-runs .ensures) (c .before .before .before .before .match .keys10) refl
 
+same-length-6 : tie.Need-same-length-6
+same-length-6 c = search needs
+
 returns-11 : tie.Need-returns-11
-returns-11 c =
+unfolding replyTo
+returns-11 c = replied-left _ _ (c .before .before .list-sheet .ensures) (c .before .before .before .before .match .keys11) refl
+
+returns-12 : tie.Need-returns-12
+returns-12 c =
     let late = c .match .rest in
-    let early = late .0 .0 .0 .0 .0 in
+    let early = late .0 .0 .0 .0 .0 .0 in
     replied-unknown _ _ _ (early .0 .0 .0 .0 .1) (early .0 .0 .0 .1) (early .0 .0 .1) (early .0 .1) (early .1)
-    (late .0 .0 .0 .0 .1) (late .0 .0 .0 .1) (late .0 .0 .1) (late .0 .1) (late .1)
+    (late .0 .0 .0 .0 .0 .1) (late .0 .0 .0 .0 .1) (late .0 .0 .0 .1) (late .0 .0 .1) (late .0 .1) (late .1)
 
 pub reply-to-spec : {M : Type 1} → statement M
 reply-to-spec =
@@ -118,6 +128,7 @@ reply-to-spec =
     move-tray-requires
     move-pair-requires
     shared-runs-requires
+    list-sheet-requires
     returns
     returns-2
     returns-3
@@ -133,4 +144,6 @@ reply-to-spec =
     returns-9
     same-length-5
     returns-10
-    returns-11)
+    same-length-6
+    returns-11
+    returns-12)

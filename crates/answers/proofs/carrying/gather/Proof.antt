@@ -1,6 +1,7 @@
 -- `gather` meets its contract. Assumes nothing.
 use Rattle.astrephon.specs.Carries.{gatheredCall}
-use Rattle.answers.proofs.Replies.{carried-left}
+use Rattle.answers.specs.Replies.{ofCarried}
+use Rattle.answers.proofs.Replies.{told-left}
 use borrow.Author.Needs.{needs}
 use Rattle.answers.proofs.carrying.gather.Statement.{statement}
 use Rattle.answers.proofs.carrying.gather.Tie as tie
@@ -38,7 +39,7 @@ returns c =
     let a = b .before in
     let i = a .before in
     let start = i .before .before .before in
-    carried-left
+    told-left ofCarried
     (λ t. gatheredCall (sheet .sheet1 .ensures t) (i .number-at .ensures t)
     (a .number-at2 .ensures t) (b .number-at3 .ensures t) (source .from .ensures t) (start .args .into .now))
     (called .gather .ensures .0) (called .gather .ensures .1) (c .of-carried .ensures)

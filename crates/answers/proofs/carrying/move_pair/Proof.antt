@@ -1,6 +1,7 @@
 -- `move_pair` meets its contract. Assumes nothing.
 use Rattle.astrephon.specs.Moves.{pairMovedCall}
-use Rattle.answers.proofs.Replies.{carried-left}
+use Rattle.answers.specs.Replies.{ofCarried}
+use Rattle.answers.proofs.Replies.{told-left}
 use borrow.Author.Needs.{needs}
 use Rattle.answers.proofs.carrying.move_pair.Statement.{statement}
 use Rattle.answers.proofs.carrying.move_pair.Tie as tie
@@ -46,7 +47,7 @@ returns c =
     let j = a .before in
     let i = j .before in
     let start = i .before .before .before in
-    carried-left
+    told-left ofCarried
     (λ t. pairMovedCall (one .sheet1 .ensures t) (two .sheet2 .ensures t) (i .number-at .ensures t) (j .number-at2 .ensures t)
     (a .number-at3 .ensures t) (b .number-at4 .ensures t) (source .from .ensures t) (start .args .into .now))
     (called .move-pair .ensures .0) (called .move-pair .ensures .1) (c .of-carried .ensures)

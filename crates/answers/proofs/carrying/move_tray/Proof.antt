@@ -1,6 +1,7 @@
 -- `move_tray` meets its contract. Assumes nothing.
 use Rattle.astrephon.specs.Moves.{movedCall}
-use Rattle.answers.proofs.Replies.{carried-left}
+use Rattle.answers.specs.Replies.{ofCarried}
+use Rattle.answers.proofs.Replies.{told-left}
 use borrow.Author.Needs.{needs}
 use Rattle.answers.proofs.carrying.move_tray.Statement.{statement}
 use Rattle.answers.proofs.carrying.move_tray.Tie as tie
@@ -38,7 +39,7 @@ returns c =
     let b = one .before in
     let a = b .before in
     let start = a .before .before .before in
-    carried-left
+    told-left ofCarried
     (λ t. movedCall (one .sheet1 .ensures t) (two .sheet2 .ensures t) (a .number-at .ensures t) (b .number-at2 .ensures t)
     (source .from .ensures t) (start .args .into .now))
     (called .move-tray .ensures .0) (called .move-tray .ensures .1) (c .of-carried .ensures)

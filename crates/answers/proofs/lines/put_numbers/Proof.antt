@@ -5,56 +5,56 @@ use Rattle.answers.proofs.lines.put_numbers.Statement.{statement}
 use Rattle.answers.proofs.lines.put_numbers.Tie as tie
 
 -- the places behind each number
-abbrev at5 : tie.After-put-number6 → tie.After-put-number5
+abbrev at5 : tie.After-put-field6 → tie.After-put-field5
 at5 c = c .before .before .before .before
 
-abbrev at4 : tie.After-put-number6 → tie.After-put-number4
+abbrev at4 : tie.After-put-field6 → tie.After-put-field4
 at4 c = at5 c .before .before .before .before
 
-abbrev at3 : tie.After-put-number6 → tie.After-put-number3
+abbrev at3 : tie.After-put-field6 → tie.After-put-field3
 at3 c = at4 c .before .before .before .before
 
-abbrev at2 : tie.After-put-number6 → tie.After-put-number2
+abbrev at2 : tie.After-put-field6 → tie.After-put-field2
 at2 c = at3 c .before .before .before .before
 
-abbrev at1 : tie.After-put-number6 → tie.After-put-number
+abbrev at1 : tie.After-put-field6 → tie.After-put-field
 at1 c = at2 c .before .before .before .before
 
-put-number-requires : tie.Need-put-number-requires
-put-number-requires c κs = search needs
+put-field-requires : tie.Need-put-field-requires
+put-field-requires c κs = search needs
 
-put-number-requires-2 : tie.Need-put-number-requires-2
-put-number-requires-2 c κs = search needs
+put-field-requires-2 : tie.Need-put-field-requires-2
+put-field-requires-2 c κs = search needs
 
-put-number-requires-3 : tie.Need-put-number-requires-3
-put-number-requires-3 c κs = search needs
+put-field-requires-3 : tie.Need-put-field-requires-3
+put-field-requires-3 c κs = search needs
 
-put-number-requires-4 : tie.Need-put-number-requires-4
-put-number-requires-4 c κs = search needs
+put-field-requires-4 : tie.Need-put-field-requires-4
+put-field-requires-4 c κs = search needs
 
-put-number-requires-5 : tie.Need-put-number-requires-5
-put-number-requires-5 c κs = search needs
+put-field-requires-5 : tie.Need-put-field-requires-5
+put-field-requires-5 c κs = search needs
 
-put-number-requires-6 : tie.Need-put-number-requires-6
-put-number-requires-6 c κs = search needs
+put-field-requires-6 : tie.Need-put-field-requires-6
+put-field-requires-6 c κs = search needs
 
 same-length : tie.Need-same-length
 same-length c = search needs
 
 returns : tie.Need-returns
 returns c =
-    put-fields _ (at1 (c .before .before) .put-number .ensures) (at2 (c .before .before) .put-number2 .ensures) (at3 (c .before .before) .put-number3 .ensures)
-    (at4 (c .before .before) .put-number4 .ensures) (at5 (c .before .before) .put-number5 .ensures) (c .before .before .put-number6 .ensures)
+    put-fields _ (at1 (c .before .before) .put-field .ensures) (at2 (c .before .before) .put-field2 .ensures) (at3 (c .before .before) .put-field3 .ensures)
+    (at4 (c .before .before) .put-field4 .ensures) (at5 (c .before .before) .put-field5 .ensures) (c .before .before .put-field6 .ensures)
 
 pub put-numbers-spec : {M : Type 1} → statement M
 put-numbers-spec =
     tie.close
     (tie.spec
-    put-number-requires
-    put-number-requires-2
-    put-number-requires-3
-    put-number-requires-4
-    put-number-requires-5
-    put-number-requires-6
+    put-field-requires
+    put-field-requires-2
+    put-field-requires-3
+    put-field-requires-4
+    put-field-requires-5
+    put-field-requires-6
     same-length
     returns)

@@ -1,0 +1,35 @@
+-- `list_sheet` meets its contract. Assumes nothing.
+use Rattle.answers.proofs.Replies.{told-left}
+use Rattle.answers.specs.Replies.{ofWritten}
+use Rattle.astrephon.specs.Texts.{writtenCall}
+use Prim.Native.Nat.{ℕ}
+use mathlib.Core.List.{List}
+use mathlib.Core.Path.{ap}
+use borrow.Author.Needs.{needs}
+use Rattle.answers.proofs.calls.list_sheet.Statement.{statement}
+use Rattle.answers.proofs.calls.list_sheet.Tie as tie
+use Rattle.answers.proofs.calls.list_sheet.Reads as reads
+use Rattle.answers.proofs.calls.list_sheet.Lts as lts
+use Rattle.answers.proofs.frames.sheet1.Reads as sheet1-reads
+use Rattle.answers.proofs.told.of_written.Reads as of-written-reads
+use Rattle.astrephon.proofs.list_sheet.Reads as list-sheet-reads
+
+sheet1-requires : tie.Need-sheet1-requires
+sheet1-requires c κs = search needs
+
+list-sheet-requires : tie.Need-list-sheet-requires
+list-sheet-requires c κs = search needs
+
+of-written-requires : tie.Need-of-written-requires
+of-written-requires c κs = search needs
+
+same-length : tie.Need-same-length
+same-length c = search needs
+
+returns : tie.Need-returns
+returns c = let called = c .before .before .before in let sheet = called .before .before in told-left ofWritten (ap (λ (s : List ℕ). writtenCall s (sheet .before .before .before .args .into .now)) (sheet .sheet1 .ensures)) (called .list-sheet .ensures .0) (called .list-sheet .ensures .1) (c .of-written .ensures)
+
+pub list-sheet-spec : {M : Type 1} → statement M
+list-sheet-spec =
+    tie.close
+    (tie.spec sheet1-requires list-sheet-requires of-written-requires same-length returns)

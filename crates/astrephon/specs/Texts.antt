@@ -1,0 +1,21 @@
+-- THE CALL `list_sheet`: the listing of a sheet, for people to read. It is a text for a refused sheet too, so a buffer that is too short is all that is
+-- refused. Assumes nothing: these are definitions.
+use mathlib.Core.List.{List, [], _∷_, _++_}
+use Prim.Native.Nat.{ℕ}
+use lib.Dec.{ltb}
+use lib.ListN.{length, drop}
+use Rattle.sheets.specs.Refusals.{_when_}
+use Rattle.sheets.specs.Sheet.{readSheet}
+use Rattle.lines.specs.Listing.{listing}
+use Rattle.astrephon.specs.declared.Written.{Written}
+use Rattle.astrephon.specs.declared.Written.the-variants.{Bytes, Refused}
+use Rattle.astrephon.specs.Refusals.{BUFFER, unlessFault, Outcome, stays}
+
+-- a text at the front of what a buffer held; later bytes stay
+unfoldable pub writtenOf : (text held : List ℕ) → Outcome Written
+writtenOf text held =
+    unlessFault (stays Refused held) ((BUFFER when ltb (length held) (length text)) ∷ [])
+    (record { answer = Bytes (length text); later = text ++ drop (length text) held })
+
+abbrev pub writtenCall : List ℕ → (held : List ℕ) → Outcome Written
+writtenCall xs held = writtenOf (listing (readSheet xs)) held
