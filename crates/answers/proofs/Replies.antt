@@ -6,8 +6,8 @@ use Prim.Native.Nat.{ℕ, _/_}
 use borrow.Author.Tests.{eq-eqb, ne-eqb}
 use lib.Dec.{eqb}
 use lib.ListN.{length}
+use Rattle.openings.specs.Refusals.{Outcome}
 use Rattle.astrephon.specs.declared.Listed.{Listed}
-use Rattle.astrephon.specs.Refusals.{Outcome}
 use Rattle.astrephon.specs.Shares.{sharedCall}
 use Rattle.answers.specs.declared.lines.Answer.{Answer}
 use Rattle.answers.specs.declared.calls.Reply.{Reply}

@@ -4,7 +4,8 @@ use mathlib.Core.List.{List, []}
 use Prim.Native.Nat.{ℕ}
 use lib.Dec.{eqb}
 use lib.ListN.{length}
-use Rattle.astrephon.specs.declared.Refusal.{Refusal}
+use Rattle.openings.specs.declared.Refusal.{Refusal}
+use Rattle.openings.specs.Refusals.{Outcome}
 use Rattle.astrephon.specs.declared.Checked.{Checked}
 use Rattle.astrephon.specs.declared.Checked.the-variants as checked
 use Rattle.astrephon.specs.declared.Mapped.{Mapped}
@@ -19,7 +20,6 @@ use Rattle.astrephon.specs.declared.Carried.{Carried}
 use Rattle.astrephon.specs.declared.Carried.the-variants as carried
 use Rattle.astrephon.specs.declared.Written.{Written}
 use Rattle.astrephon.specs.declared.Written.the-variants as written
-use Rattle.astrephon.specs.Refusals.{Outcome}
 use Rattle.astrephon.specs.Check.{checkCall}
 use Rattle.astrephon.specs.Maps.{exactCall, nextCall, inverseCall, spanCall}
 use Rattle.astrephon.specs.Shares.{sharedCall}

@@ -10,19 +10,20 @@ use Rattle.counting.specs.Trays.{moved, pairMoved}
 use Rattle.sheets.specs.declared.Reading.{Reading}
 use Rattle.sheets.specs.Refusals.{firstFault}
 use Rattle.sheets.specs.Sheet.{readSheet}
-use Rattle.astrephon.specs.declared.Refusal.{Refusal}
+use Rattle.openings.specs.declared.Refusal.{Refusal}
+use Rattle.openings.specs.Refusals.{ELEMENT, callRefusal, Outcome, stays}
+use Rattle.openings.specs.Offsets.{LIMIT, offsetsOf, elementTest, unlessWindow}
+use Rattle.openings.specs.Buffers.{packedLength}
+use Rattle.openings.proofs.Orders.{row-there, sheet-passed, fault-refused, fault-passed}
+use Rattle.openings.proofs.Opens.{element-on}
+use Rattle.openings.proofs.PairOpens.{pair-on}
+use Rattle.openings.proofs.Faults.{range-fine, buffer-fine, trays-buffers}
+use Rattle.openings.proofs.BothSheets.{sheets-passed}
 use Rattle.astrephon.specs.declared.Carried.{Carried}
 use Rattle.astrephon.specs.declared.Carried.the-variants.{Done, Refused}
-use Rattle.astrephon.specs.Refusals.{ELEMENT, callRefusal, Outcome, stays}
-use Rattle.astrephon.specs.Offsets.{LIMIT, offsetsOf, elementTest}
-use Rattle.astrephon.specs.Carries.{packedLength, unlessWindow, gatheredOf, scatteredOf, gatheredCall, scatteredCall}
+use Rattle.astrephon.specs.Carries.{gatheredOf, scatteredOf, gatheredCall, scatteredCall}
 use Rattle.astrephon.specs.Moves.{layoutOf, trayTests, movedOf, pairMovedOf, movedCall, pairMovedCall}
 use Rattle.astrephon.specs.Sequences.{Takes, Forward}
-use Rattle.astrephon.proofs.Orders.{row-there, sheet-passed, fault-refused, fault-passed}
-use Rattle.astrephon.proofs.Opens.{element-on}
-use Rattle.astrephon.proofs.PairOpens.{pair-on}
-use Rattle.astrephon.proofs.Faults.{range-fine, buffer-fine, trays-buffers}
-use Rattle.astrephon.proofs.BothSheets.{sheets-passed}
 
 -- what a call's buffer holds afterwards
 abbrev pub laterOf : Outcome Carried → List ℕ

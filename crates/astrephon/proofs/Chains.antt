@@ -12,9 +12,9 @@ use Rattle.counting.proofs.Cases.{lt-or-le}
 use Rattle.counting.proofs.Trays.{tray-ext, tray-at, tray-of}
 use Rattle.counting.proofs.Moves.{length-moved, moved-moved, length-pair, pairs-move}
 use Rattle.sheets.specs.Sheet.{readSheet}
+use Rattle.openings.proofs.Faults.{pair-first, pair-second}
 use Rattle.astrephon.specs.Moves.{layoutOf, movedCall, pairMovedCall}
 use Rattle.astrephon.specs.Sequences.{Takes, Forward, Stop, AllTake, chained, paired}
-use Rattle.astrephon.proofs.Faults.{pair-first, pair-second}
 use Rattle.astrephon.proofs.Accepting.{laterOf, move-does, pair-does, pair-stays}
 use Rattle.astrephon.proofs.Trays.{layout-length, past-none, shared-out}
 

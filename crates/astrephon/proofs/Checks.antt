@@ -4,11 +4,11 @@ use mathlib.Core.List.{List}
 use Prim.Native.Nat.{ℕ, _≤_}
 use Rattle.sheets.specs.declared.Reading.{Reading}
 use Rattle.sheets.specs.Sheet.{readSheet}
+use Rattle.openings.specs.Refusals.{sheetRefusal}
+use Rattle.openings.proofs.Orders.{sheet-refused, sheet-passed}
+use Rattle.openings.proofs.Opens.{layout-rules}
 use Rattle.astrephon.specs.declared.Checked.the-variants.{Accepted, Refused}
 use Rattle.astrephon.specs.Check.{checkedOf, checkCall}
-use Rattle.astrephon.specs.Refusals.{sheetRefusal}
-use Rattle.astrephon.proofs.Orders.{sheet-refused, sheet-passed}
-use Rattle.astrephon.proofs.Opens.{layout-rules}
 
 module _ (xs : List ℕ) (r : Reading) (e : r ≡ readSheet xs) where
   pub check-refused : (r .number ≡ 0 → ⊥) → Refused (sheetRefusal 1 r) ≡ checkCall xs

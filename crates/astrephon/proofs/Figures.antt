@@ -19,10 +19,10 @@ use Rattle.sheets.specs.Records.{lengthOf, headTests, familyRecord, badSegment,
 use Rattle.sheets.specs.Sheet.{siblingsFrom, forestFrom, elementsFrom, elementsOf, refusal, accepted, judged, answer, readSheet}
 use Rattle.sheets.specs.Pattern.{sizes, firstUneven}
 use Rattle.sheets.specs.Encode.{familyBytes, forestBytes, elementBytes, elementsBytes, encode}
+use Rattle.openings.specs.Refusals.{BEFORE, FOREIGN, ROOM, unlessSheet, unlessFault}
+use Rattle.openings.specs.Offsets.{offsetsOf}
 use Rattle.runs.specs.Listing.{listOf}
-use Rattle.astrephon.specs.Refusals.{BEFORE, FOREIGN, ROOM, unlessSheet, unlessFault}
 use Rattle.astrephon.specs.Check.{checkedOf, checkCall}
-use Rattle.astrephon.specs.Offsets.{offsetsOf}
 use Rattle.astrephon.specs.Maps.{exactOf, nextOf, exactCall, nextCall, inverseCall}
 use Rattle.astrephon.specs.Shares.{listedIn, sharedCall}
 use Rattle.astrephon.specs.Moves.{movedCall}

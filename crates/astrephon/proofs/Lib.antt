@@ -1,9 +1,4 @@
-pub mod Orders
-pub mod Answering
-pub mod Opens
-pub mod PairOpens
-pub mod BothSheets
-pub mod Faults
+pub mod Asks
 pub mod Checks
 pub mod Mappings
 pub mod Listings

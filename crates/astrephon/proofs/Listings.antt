@@ -13,19 +13,20 @@ use Rattle.sheets.specs.Refusals.{firstFault}
 use Rattle.maps.specs.declared.Selection.{Selection}
 use Rattle.maps.specs.Selected.{belongs}
 use Rattle.maps.specs.declared.Window.{Window}
+use Rattle.openings.specs.declared.Refusal.{Refusal}
+use Rattle.openings.specs.declared.Opening.{Opening}
+use Rattle.openings.specs.Refusals.{ROOM, callRefusal, stays}
+use Rattle.openings.specs.Offsets.{LIMIT, offsetsOf, windowTests}
+use Rattle.openings.specs.Openings.{openingOf, soonerOf}
+use Rattle.openings.proofs.Orders.{fault-refused, fault-passed}
+use Rattle.openings.proofs.Faults.{range-known}
+use Rattle.openings.proofs.Opens.{Opened}
+use Rattle.openings.proofs.PairOpens.{pair-closed, pair-on}
 use Rattle.runs.specs.Walking.{Side·ok, Window·ok}
 use Rattle.runs.specs.Listing.{sharedRuns, listOf, capacity, listAfter}
-use Rattle.astrephon.specs.declared.Refusal.{Refusal}
 use Rattle.astrephon.specs.declared.Listed.the-variants.{Runs, Refused}
-use Rattle.astrephon.specs.declared.opened.Opening.{Opening}
-use Rattle.astrephon.specs.Refusals.{ROOM, callRefusal, stays}
-use Rattle.astrephon.specs.Offsets.{LIMIT, offsetsOf, windowTests}
-use Rattle.astrephon.specs.Openings.{openingOf, soonerOf}
 use Rattle.astrephon.specs.Shares.{runsOfPair, listedIn, sharedOf}
-use Rattle.astrephon.proofs.Orders.{fault-refused, fault-passed}
-use Rattle.astrephon.proofs.Faults.{range-known}
-use Rattle.astrephon.proofs.Opens.{Opened, side-ok}
-use Rattle.astrephon.proofs.PairOpens.{pair-closed, pair-on}
+use Rattle.astrephon.proofs.Asks.{side-ok}
 
 -- ---- a list that holds every run, and one that does not
 module _ (p q : ℕ → Bool) (shared : List Run) (held : List ℕ) (runs : ℕ) (count : runs ≡ length shared) (later : List ℕ) (list : later ≡ listAfter p q shared held) where

@@ -20,19 +20,19 @@ use Rattle.sheets.specs.Refusals.{firstFault}
 use Rattle.maps.specs.declared.Selection.{Selection}
 use Rattle.maps.specs.Selected.{belongs, Byte}
 use Rattle.maps.proofs.BytesOf.{inverse-near, inverse-far}
-use Rattle.astrephon.specs.declared.Refusal.{Refusal}
+use Rattle.openings.specs.declared.Refusal.{Refusal}
+use Rattle.openings.specs.declared.Opening.{Opening}
+use Rattle.openings.specs.Refusals.{FAR, FOREIGN, callRefusal, unlessFault}
+use Rattle.openings.specs.Offsets.{LIMIT, offsetsOf, rankOf, placeOf, offsetTests, intervalTests}
+use Rattle.openings.specs.Openings.{openingOf}
+use Rattle.openings.proofs.Orders.{row-there, row-absent, fault-refused, fault-passed}
+use Rattle.openings.proofs.Faults.{offset-fine}
+use Rattle.openings.proofs.Opens.{element-on, opening-refused, Opened, opened-on}
 use Rattle.astrephon.specs.declared.Mapped.{Mapped}
 use Rattle.astrephon.specs.declared.Mapped.the-variants as mapped
 use Rattle.astrephon.specs.declared.Located.the-variants as located
 use Rattle.astrephon.specs.declared.Spanned.the-variants as spanned
-use Rattle.astrephon.specs.declared.opened.Opening.{Opening}
-use Rattle.astrephon.specs.Refusals.{FAR, FOREIGN, callRefusal, unlessFault}
-use Rattle.astrephon.specs.Offsets.{LIMIT, offsetsOf, rankOf, placeOf, offsetTests, intervalTests}
 use Rattle.astrephon.specs.Maps.{exactOf, nextOf, inverseOf, spanOf}
-use Rattle.astrephon.specs.Openings.{openingOf}
-use Rattle.astrephon.proofs.Orders.{row-there, row-absent, fault-refused, fault-passed}
-use Rattle.astrephon.proofs.Faults.{offset-fine}
-use Rattle.astrephon.proofs.Opens.{element-on, opening-refused, Opened, opened-on}
 
 -- ---- nothing was opened
 module _ (r : Reading) (e : ℕ) (o : Opening) (is : o ≡ openingOf 1 r e) (d : o .refusal .number ≡ 0 → ⊥) where

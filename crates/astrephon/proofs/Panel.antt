@@ -13,8 +13,8 @@ use Rattle.sheets.specs.Pattern.{sizes, Tiled}
 use Rattle.sheets.specs.Encode.{ElementRules, Rules, encode}
 use Rattle.sheets.proofs.Exactly.{good-read}
 use Rattle.maps.specs.Selected.{Byte}
+use Rattle.openings.specs.Offsets.{offsetsOf}
 use Rattle.astrephon.specs.declared.Mapped.the-variants as mapped
-use Rattle.astrephon.specs.Offsets.{offsetsOf}
 use Rattle.astrephon.specs.Maps.{exactCall}
 use Rattle.astrephon.proofs.Mappings.{exact-byte}
 

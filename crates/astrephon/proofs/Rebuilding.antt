@@ -16,8 +16,9 @@ use Rattle.counting.proofs.Elements.{element-tabulated}
 use Rattle.counting.proofs.Scatters.{length-scattered, scattered-all}
 use Rattle.sheets.specs.declared.Reading.{Reading}
 use Rattle.sheets.specs.Sheet.{readSheet}
-use Rattle.astrephon.specs.Offsets.{offsetsOf}
-use Rattle.astrephon.specs.Carries.{packedLength, gatheredCall, scatteredCall}
+use Rattle.openings.specs.Offsets.{offsetsOf}
+use Rattle.openings.specs.Buffers.{packedLength}
+use Rattle.astrephon.specs.Carries.{gatheredCall, scatteredCall}
 use Rattle.astrephon.specs.Moves.{layoutOf}
 use Rattle.astrephon.specs.Sequences.{Takes, Forward, scatters, Packs}
 use Rattle.astrephon.proofs.Accepting.{laterOf, gather-does, scatter-does, scatter-stays}

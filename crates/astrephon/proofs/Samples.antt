@@ -18,10 +18,10 @@ use Rattle.sheets.specs.Records.{lengthOf, headTests, familyRecord, badSegment,
 use Rattle.sheets.specs.Sheet.{siblingsFrom, forestFrom, elementsFrom, elementsOf, accepted, judged, answer, readSheet}
 use Rattle.sheets.specs.Pattern.{sizes, firstUneven}
 use Rattle.sheets.specs.Encode.{familyBytes, forestBytes, elementBytes, elementsBytes, encode}
+use Rattle.openings.specs.Offsets.{LIMIT, offsetsOf, windowTests}
+use Rattle.openings.proofs.Faults.{range-fine}
 use Rattle.runs.specs.Listing.{sharedRuns}
-use Rattle.astrephon.specs.Offsets.{LIMIT, offsetsOf, windowTests}
 use Rattle.astrephon.specs.Shares.{listedIn, sharedOf, sharedCall}
-use Rattle.astrephon.proofs.Faults.{range-fine}
 use Rattle.astrephon.proofs.Listings.{shared-on}
 
 -- one family of one segment without children, as the figures have them

@@ -14,15 +14,15 @@ use Rattle.counting.proofs.Runs.{runs-spaced, runs-cover, runs-maximal}
 use Rattle.counting.proofs.RunCounts.{runs-total}
 use Rattle.sheets.specs.declared.Reading.{Reading}
 use Rattle.sheets.specs.Sheet.{readSheet}
+use Rattle.openings.specs.declared.Refusal.{Refusal}
+use Rattle.openings.specs.Refusals.{ROOM, callRefusal, Outcome, stays}
+use Rattle.openings.specs.Offsets.{LIMIT, offsetsOf, elementTest, windowTests}
+use Rattle.openings.proofs.Orders.{sheet-through, fault-through}
+use Rattle.openings.proofs.Faults.{range-fine}
 use Rattle.runs.specs.Listing.{both, sharedRuns, listOf, capacity}
-use Rattle.astrephon.specs.declared.Refusal.{Refusal}
 use Rattle.astrephon.specs.declared.Listed.{Listed}
 use Rattle.astrephon.specs.declared.Listed.the-variants.{Runs, Refused}
-use Rattle.astrephon.specs.Refusals.{ROOM, callRefusal, Outcome, stays}
-use Rattle.astrephon.specs.Offsets.{LIMIT, offsetsOf, elementTest, windowTests}
 use Rattle.astrephon.specs.Shares.{runsOfPair, listedIn, sharedOf, sharedCall}
-use Rattle.astrephon.proofs.Orders.{sheet-through, fault-through}
-use Rattle.astrephon.proofs.Faults.{range-fine}
 use Rattle.astrephon.proofs.Listings.{shared-on}
 
 -- ---- WHAT THE RUNS ARE, of any two selections p and q: their offsets are in both, inside the window none can be made longer, they ascend and never touch, and

@@ -11,12 +11,12 @@ use lib.Seq.{paste, length-take-le}
 use Rattle.counting.proofs.Cases.{byTest}
 use Rattle.sheets.specs.Refusals.{_when_, firstFault}
 use Rattle.words.specs.Texts.{Put}
-use Rattle.astrephon.specs.declared.Refusal.{Refusal}
+use Rattle.openings.specs.declared.Refusal.{Refusal}
 use Rattle.astrephon.specs.declared.Written.{Written}
 use Rattle.astrephon.specs.declared.Written.the-variants.{Bytes, Refused}
-use Rattle.astrephon.specs.Refusals.{BUFFER, callRefusal, unlessFault, Outcome, stays}
+use Rattle.openings.specs.Refusals.{BUFFER, callRefusal, unlessFault, Outcome, stays}
 use Rattle.astrephon.specs.Texts.{writtenOf}
-use Rattle.astrephon.proofs.Orders.{row-there, row-absent, fault-refused, fault-passed, parts}
+use Rattle.openings.proofs.Orders.{row-there, row-absent, fault-refused, fault-passed, parts}
 
 -- what a call leaves, by its answer and its buffer
 abbrev Leaves : Outcome Written → (answer : Written) → (later : List ℕ) → Type 0

@@ -15,8 +15,8 @@ use Rattle.families.specs.Flat.{width, total, flat, totals, flats, elementsAt, 
 use Rattle.sheets.specs.declared.Reading.{Reading}
 use Rattle.sheets.specs.Sheet.{accepted, readSheet}
 use Rattle.sheets.specs.Pattern.{sizes}
+use Rattle.openings.specs.Offsets.{LIMIT, offsetsOf}
 use Rattle.astrephon.specs.declared.Carried.the-variants.{Done}
-use Rattle.astrephon.specs.Offsets.{LIMIT, offsetsOf}
 use Rattle.astrephon.specs.Moves.{movedCall}
 use Rattle.astrephon.specs.Moves as calls
 use Rattle.astrephon.specs.Sequences.{Takes, Forward}

@@ -13,19 +13,19 @@ use Rattle.sheets.proofs.Accepted.{accepted-law}
 use Rattle.maps.specs.declared.Window.{Window}
 use Rattle.maps.specs.Selected.{elementsOf}
 use Rattle.maps.proofs.Chosen.{accepted-pattern}
+use Rattle.openings.specs.declared.Refusal.{Refusal}
+use Rattle.openings.specs.declared.Sheets.{Sheets}
+use Rattle.openings.specs.Refusals.{callRefusal, unlessSheets, Outcome, stays}
+use Rattle.openings.specs.Offsets.{LIMIT, offsetsOf, elementTest, windowTests}
+use Rattle.openings.specs.Buffers.{bufferTests}
+use Rattle.openings.specs.Openings.{sheetsOf}
+use Rattle.openings.proofs.Orders.{fault-refused, fault-passed}
+use Rattle.openings.proofs.Faults.{trays-known}
+use Rattle.openings.proofs.BothSheets.{first-read, second-read, sheets-refused, sheets-accepted, sheets-passed}
 use Rattle.trays.specs.Parts.{Lengths, Starts}
-use Rattle.astrephon.specs.declared.Refusal.{Refusal}
 use Rattle.astrephon.specs.declared.Carried.{Carried}
 use Rattle.astrephon.specs.declared.Carried.the-variants.{Done, Refused}
-use Rattle.astrephon.specs.declared.opened.Sheets.{Sheets}
-use Rattle.astrephon.specs.Refusals.{callRefusal, unlessSheets, Outcome, stays}
-use Rattle.astrephon.specs.Offsets.{LIMIT, offsetsOf, elementTest, windowTests}
-use Rattle.astrephon.specs.Carries.{bufferTests}
-use Rattle.astrephon.specs.Openings.{sheetsOf}
 use Rattle.astrephon.specs.Moves.{layoutOf, trayTests, movedOf, pairMovedOf, movedCall, pairMovedCall}
-use Rattle.astrephon.proofs.Orders.{fault-refused, fault-passed}
-use Rattle.astrephon.proofs.Faults.{trays-known}
-use Rattle.astrephon.proofs.BothSheets.{first-read, second-read, sheets-refused, sheets-accepted, sheets-passed}
 
 -- the engine's elements are the sheet's
 pub layout-is : (r : Reading) → elementsOf (r .layout) (r .size) ≡ layoutOf r

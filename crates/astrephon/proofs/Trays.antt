@@ -15,7 +15,7 @@ use Rattle.families.specs.Decoded.{treeOf, selections}
 use Rattle.sheets.specs.declared.Reading.{Reading}
 use Rattle.sheets.specs.Sheet.{readSheet}
 use Rattle.sheets.proofs.Accepted.{accepted-law}
-use Rattle.astrephon.specs.Offsets.{offsetsOf}
+use Rattle.openings.specs.Offsets.{offsetsOf}
 use Rattle.astrephon.specs.Moves.{layoutOf}
 use Rattle.astrephon.specs.Sequences.{Takes}
 

@@ -23,15 +23,15 @@ use Rattle.sheets.proofs.Faults.{no-fault}
 use Rattle.maps.specs.Selected.{Byte, ranks}
 use Rattle.maps.proofs.BytesOf.{next-is}
 use Rattle.maps.proofs.Sharing.{ranks-sum}
-use Rattle.astrephon.specs.declared.Refusal.{Refusal}
+use Rattle.openings.specs.declared.Refusal.{Refusal}
+use Rattle.openings.specs.Refusals.{ELEMENT, BEFORE, FAR, FOREIGN}
+use Rattle.openings.specs.Offsets.{LIMIT, offsetsOf, rankOf, placeOf, elementTest, offsetTests, unlessElement}
+use Rattle.openings.proofs.Orders.{sheet-through, fault-through}
 use Rattle.astrephon.specs.declared.Mapped.{Mapped}
 use Rattle.astrephon.specs.declared.Mapped.the-variants as mapped
 use Rattle.astrephon.specs.declared.Located.{Located}
 use Rattle.astrephon.specs.declared.Located.the-variants as located
-use Rattle.astrephon.specs.Refusals.{ELEMENT, BEFORE, FAR, FOREIGN}
-use Rattle.astrephon.specs.Offsets.{LIMIT, offsetsOf, rankOf, placeOf, elementTest, offsetTests, unlessElement}
 use Rattle.astrephon.specs.Maps.{exactOf, nextOf, inverseOf, exactCall, nextCall, inverseCall}
-use Rattle.astrephon.proofs.Orders.{sheet-through, fault-through}
 use Rattle.astrephon.proofs.Mappings.{exact-byte, inverse-own}
 
 -- ---- where a call is answered the sheet is accepted and has the element

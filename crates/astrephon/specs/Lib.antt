@@ -1,5 +1,3 @@
-pub mod Refusals
-pub mod Offsets
 pub mod Check
 pub mod Maps
 pub mod Shares
@@ -7,5 +5,4 @@ pub mod Carries
 pub mod Moves
 pub mod Texts
 pub mod Sequences
-pub mod Openings
 pub mod Said

@@ -6,14 +6,14 @@ use lib.Dec.{leb}
 use Rattle.sheets.specs.declared.Reading.{Reading}
 use Rattle.sheets.specs.Refusals.{_when_}
 use Rattle.sheets.specs.Sheet.{readSheet}
+use Rattle.openings.specs.Refusals.{FAR, FOREIGN, unlessFault}
+use Rattle.openings.specs.Offsets.{LIMIT, offsetsOf, rankOf, placeOf, offsetTests, intervalTests, unlessElement}
 use Rattle.astrephon.specs.declared.Mapped.{Mapped}
 use Rattle.astrephon.specs.declared.Mapped.the-variants as mapped
 use Rattle.astrephon.specs.declared.Located.{Located}
 use Rattle.astrephon.specs.declared.Located.the-variants as located
 use Rattle.astrephon.specs.declared.Spanned.{Spanned}
 use Rattle.astrephon.specs.declared.Spanned.the-variants as spanned
-use Rattle.astrephon.specs.Refusals.{FAR, FOREIGN, unlessFault}
-use Rattle.astrephon.specs.Offsets.{LIMIT, offsetsOf, rankOf, placeOf, offsetTests, intervalTests, unlessElement}
 
 unfoldable pub exactOf : Reading → (e x : ℕ) → Mapped
 exactOf r e x =

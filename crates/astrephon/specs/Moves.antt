@@ -8,11 +8,11 @@ use Rattle.counting.specs.Trays.{moved, pairMoved}
 use Rattle.sheets.specs.declared.Reading.{Reading}
 use Rattle.sheets.specs.Refusals.{Test}
 use Rattle.sheets.specs.Sheet.{readSheet}
+use Rattle.openings.specs.Refusals.{unlessSheets, unlessFault, Outcome, stays}
+use Rattle.openings.specs.Offsets.{offsetsOf, windowTests, unlessElements}
+use Rattle.openings.specs.Buffers.{bufferTests}
 use Rattle.astrephon.specs.declared.Carried.{Carried}
 use Rattle.astrephon.specs.declared.Carried.the-variants.{Done, Refused}
-use Rattle.astrephon.specs.Refusals.{unlessSheets, unlessFault, Outcome, stays}
-use Rattle.astrephon.specs.Offsets.{offsetsOf, windowTests, unlessElements}
-use Rattle.astrephon.specs.Carries.{bufferTests}
 
 -- THE LAYOUT of a sheet: its elements in order, each the test of its file offsets
 abbrev pub layoutOf : Reading → Elements

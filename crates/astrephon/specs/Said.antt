@@ -2,7 +2,8 @@
 -- the values that an answer gives, and what the lent buffer holds afterwards, if there is one. Assumes nothing: these are definitions.
 use mathlib.Core.List.{List, [], _∷_}
 use Prim.Native.Nat.{ℕ}
-use Rattle.astrephon.specs.declared.Refusal.{Refusal}
+use Rattle.openings.specs.declared.Refusal.{Refusal}
+use Rattle.openings.specs.Refusals.{Outcome}
 use Rattle.astrephon.specs.declared.Checked.{Checked}
 use Rattle.astrephon.specs.declared.Checked.the-variants as checked
 use Rattle.astrephon.specs.declared.Mapped.{Mapped}
@@ -19,7 +20,6 @@ use Rattle.astrephon.specs.declared.Carried.{Carried}
 use Rattle.astrephon.specs.declared.Carried.the-variants as carried
 use Rattle.astrephon.specs.declared.Written.{Written}
 use Rattle.astrephon.specs.declared.Written.the-variants as written
-use Rattle.astrephon.specs.Refusals.{Outcome}
 
 pub record Said : Type 0 where
   pub number : ℕ

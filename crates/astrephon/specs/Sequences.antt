@@ -4,8 +4,9 @@ use mathlib.Core.Path.{_≡_}
 use Prim.Native.Nat.{ℕ, _-_, _≤_, _<_}
 use lib.ListN.{length}
 use Rattle.sheets.specs.Sheet.{readSheet}
-use Rattle.astrephon.specs.Offsets.{LIMIT}
-use Rattle.astrephon.specs.Carries.{packedLength, gatheredCall, scatteredCall}
+use Rattle.openings.specs.Offsets.{LIMIT}
+use Rattle.openings.specs.Buffers.{packedLength}
+use Rattle.astrephon.specs.Carries.{gatheredCall, scatteredCall}
 use Rattle.astrephon.specs.Moves.{movedCall, pairMovedCall}
 
 -- what calls accept: a sheet and a window that starts in it; the window itself; and buffers of its length

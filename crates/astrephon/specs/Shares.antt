@@ -7,11 +7,11 @@ use lib.ListN.{length, drop}
 use Rattle.counting.specs.Runs.{Run}
 use Rattle.sheets.specs.declared.Reading.{Reading}
 use Rattle.sheets.specs.Sheet.{readSheet}
+use Rattle.openings.specs.Refusals.{ROOM, callRefusal, unlessFault, Outcome, stays}
+use Rattle.openings.specs.Offsets.{offsetsOf, windowTests, unlessElements}
 use Rattle.runs.specs.Listing.{sharedRuns, listOf, capacity}
 use Rattle.astrephon.specs.declared.Listed.{Listed}
 use Rattle.astrephon.specs.declared.Listed.the-variants.{Runs, Refused}
-use Rattle.astrephon.specs.Refusals.{ROOM, callRefusal, unlessFault, Outcome, stays}
-use Rattle.astrephon.specs.Offsets.{offsetsOf, windowTests, unlessElements}
 
 -- THE SHARED RUNS of element i of the first sheet and element j of the second, in the window from a to b
 abbrev pub runsOfPair : (r1 r2 : Reading) → (i j a b : ℕ) → List Run

@@ -9,7 +9,7 @@ use Rattle.sheets.specs.Sheet.{readSheet}
 use Rattle.lines.specs.Listing.{listing}
 use Rattle.astrephon.specs.declared.Written.{Written}
 use Rattle.astrephon.specs.declared.Written.the-variants.{Bytes, Refused}
-use Rattle.astrephon.specs.Refusals.{BUFFER, unlessFault, Outcome, stays}
+use Rattle.openings.specs.Refusals.{BUFFER, unlessFault, Outcome, stays}
 
 -- a text at the front of what a buffer held; later bytes stay
 unfoldable pub writtenOf : (text held : List ℕ) → Outcome Written

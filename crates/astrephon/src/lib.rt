@@ -1,15 +1,12 @@
 // Astrephon: THE CALLS. Each takes every input, and does its work or gives one refusal of 01's table; none asks anything of its caller.
 //
 // `checking` answers for one sheet, `mapping` maps offsets between the file and one element's subfile, `sharing` lists what two elements share,
-// `carrying` moves one element's bytes and `moving` bytes between trays, `listing` writes a sheet's listing; `opened` is how the calls begin, `ranges` what is checked of indexes, offsets and
-// lengths.
+// `carrying` moves one element's bytes and `moving` bytes between trays, `listing` writes a sheet's listing. How each begins is in the crate `openings`.
 mod carrying;
 mod checking;
 mod listing;
 mod mapping;
 mod moving;
-mod opened;
-mod ranges;
 mod sharing;
 
 pub use carrying::gather;
@@ -26,6 +23,16 @@ pub use mapping::next;
 pub use mapping::span;
 pub use moving::move_pair;
 pub use moving::move_tray;
+pub use openings::BEFORE;
+pub use openings::BUFFER;
+pub use openings::ELEMENT;
+pub use openings::FAR;
+pub use openings::FOREIGN;
+pub use openings::LAST;
+pub use openings::LIMIT;
+pub use openings::ROOM;
+pub use openings::Refusal;
+pub use openings::WINDOW;
 pub use sharing::shared_runs;
 pub use sheets::COUNT;
 pub use sheets::DEPTH;
@@ -41,34 +48,6 @@ pub use sheets::SEGMENT;
 pub use sheets::SHORT;
 pub use sheets::SPAN;
 pub use sheets::TRAILING;
-
-// The numbers of 01's table that a call can be refused with though its sheets are accepted.
-pub const ELEMENT: u8 = 12;
-
-pub const BEFORE: u8 = 13;
-
-pub const FAR: u8 = 14;
-
-pub const WINDOW: u8 = 15;
-
-pub const FOREIGN: u8 = 16;
-
-pub const BUFFER: u8 = 17;
-
-pub const ROOM: u8 = 18;
-
-// File offsets are below the limit. A window may end there; an offset is the last one at most.
-pub const LIMIT: u64 = 1 << 40;
-
-pub const LAST: u64 = LIMIT - 1;
-
-// A refusal: its number in 01's table, the sheet at fault (1 or 2, and 0 where it is none), the place, and the flag of number 11.
-pub struct Refusal {
-    pub number: u8,
-    pub sheet: u8,
-    pub place: u64,
-    pub flag: u8,
-}
 
 // What is known of an accepted sheet: the displacement, the pattern's size, and how many elements share it.
 pub struct Facts {

@@ -6,26 +6,24 @@ use crate::Located;
 use crate::Mapped;
 use crate::Spanned;
 use crate::SubfileOffset;
-use crate::opened;
-use crate::ranges;
 
 // Exact mapping: the subfile offset of a file offset of the element.
 pub fn exact(sheet: &[u8], element: u64, x: FileOffset) -> Mapped
     ensures { λ r. ⌜ r ≡ exactCall (now (sheet .entry)) element (x .0) ⌝ }
 {
     let mut numbers = [0u32; 1536];
-    let opening = opened::open_element(sheet, 1, element, &mut numbers);
+    let opening = openings::open_element(sheet, 1, element, &mut numbers);
     let refusal = opening.refusal;
     let selection = opening.selection;
     if refusal.number != 0 {
         return Mapped::Refused(refusal);
     }
-    let fault = ranges::offset_fault(selection.from, x);
+    let fault = openings::offset_fault(selection.from, x);
     if fault != 0 {
-        return Mapped::Refused(opened::refusal(fault, 0));
+        return Mapped::Refused(openings::call_refusal(fault, 0));
     }
     if !maps::belongs_to(&numbers, selection, x) {
-        return Mapped::Refused(opened::refusal(crate::FOREIGN, 0));
+        return Mapped::Refused(openings::call_refusal(crate::FOREIGN, 0));
     }
     let offset = maps::file_rank(&numbers, selection, x);
     Mapped::At(offset)
@@ -36,15 +34,15 @@ pub fn next(sheet: &[u8], element: u64, x: FileOffset) -> Mapped
     ensures { λ r. ⌜ r ≡ nextCall (now (sheet .entry)) element (x .0) ⌝ }
 {
     let mut numbers = [0u32; 1536];
-    let opening = opened::open_element(sheet, 1, element, &mut numbers);
+    let opening = openings::open_element(sheet, 1, element, &mut numbers);
     let refusal = opening.refusal;
     let selection = opening.selection;
     if refusal.number != 0 {
         return Mapped::Refused(refusal);
     }
-    let fault = ranges::offset_fault(selection.from, x);
+    let fault = openings::offset_fault(selection.from, x);
     if fault != 0 {
-        return Mapped::Refused(opened::refusal(fault, 0));
+        return Mapped::Refused(openings::call_refusal(fault, 0));
     }
     let rank = maps::file_rank(&numbers, selection, x);
     Mapped::At(rank)
@@ -55,17 +53,17 @@ pub fn inverse(sheet: &[u8], element: u64, y: SubfileOffset) -> Located
     ensures { λ r. ⌜ r ≡ inverseCall (now (sheet .entry)) element (y .0) ⌝ }
 {
     let mut numbers = [0u32; 1536];
-    let opening = opened::open_element(sheet, 1, element, &mut numbers);
+    let opening = openings::open_element(sheet, 1, element, &mut numbers);
     let refusal = opening.refusal;
     if refusal.number != 0 {
         return Located::Refused(refusal);
     }
     if crate::LIMIT <= y.0 {
-        return Located::Refused(opened::refusal(crate::FAR, 0));
+        return Located::Refused(openings::call_refusal(crate::FAR, 0));
     }
     let place = maps::file_inverse(&numbers, opening.selection, y);
     if crate::LIMIT <= place.0 {
-        return Located::Refused(opened::refusal(crate::FAR, 0));
+        return Located::Refused(openings::call_refusal(crate::FAR, 0));
     }
     Located::At(place)
 }
@@ -75,15 +73,15 @@ pub fn span(sheet: &[u8], element: u64, a: FileOffset, z: FileOffset) -> Spanned
     ensures { λ r. ⌜ r ≡ spanCall (now (sheet .entry)) element (a .0) (z .0) ⌝ }
 {
     let mut numbers = [0u32; 1536];
-    let opening = opened::open_element(sheet, 1, element, &mut numbers);
+    let opening = openings::open_element(sheet, 1, element, &mut numbers);
     let refusal = opening.refusal;
     let selection = opening.selection;
     if refusal.number != 0 {
         return Spanned::Refused(refusal);
     }
-    let fault = ranges::range_fault(crate::LAST, selection.from, a, z);
+    let fault = openings::range_fault(crate::LAST, selection.from, a, z);
     if fault != 0 {
-        return Spanned::Refused(opened::refusal(fault, 0));
+        return Spanned::Refused(openings::call_refusal(fault, 0));
     }
     let first = maps::file_rank(&numbers, selection, a);
     let last = maps::file_rank(&numbers, selection, z);

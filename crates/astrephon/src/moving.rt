@@ -3,8 +3,6 @@ ghost use mathlib.Core.Path.{_≡_};
 ghost use Rattle.astrephon.specs.Moves.{movedCall, pairMovedCall};
 use crate::Carried;
 use crate::FileOffset;
-use crate::opened;
-use crate::ranges;
 use maps::Window;
 
 // Fills `tray2`, a tray of the second sheet's layout, with the bytes of `tray1`, a tray of the first's. Both are of the window from a up to but not
@@ -20,17 +18,17 @@ pub fn move_tray(
     ensures { λ r. let done = movedCall (now (sheet1 .entry)) (now (sheet2 .entry)) (a .0) (b .0) (now (tray1 .entry)) (now (tray2 .entry)) in
         ⌜ r ≡ done .answer ⌝ ∗ ⌜ now (tray2 .exit) ≡ done .later ⌝ }
 {
-    let both = opened::open_sheets(sheet1, sheet2);
+    let both = openings::open_sheets(sheet1, sheet2);
     let refusal = both.refusal;
     if refusal.number != 0 {
         return Carried::Refused(refusal);
     }
     let one = both.one.layout;
     let two = both.two.layout;
-    let from = ranges::larger(one.displacement, two.displacement);
-    let fault = ranges::trays_fault(from, a, b, tray1.len() as u64, tray2.len() as u64);
+    let from = openings::larger(one.displacement, two.displacement);
+    let fault = openings::trays_fault(from, a, b, tray1.len() as u64, tray2.len() as u64);
     if fault != 0 {
-        return Carried::Refused(opened::refusal(fault, 0));
+        return Carried::Refused(openings::call_refusal(fault, 0));
     }
     let window = Window { start: a, end: b };
     trays::move_tray(one, both.one.size, two, both.two.size, window, tray1, tray2);
@@ -51,21 +49,21 @@ pub fn move_pair(
     ensures { λ r. let done = pairMovedCall (now (sheet1 .entry)) (now (sheet2 .entry)) i j (a .0) (b .0) (now (tray1 .entry)) (now (tray2 .entry)) in
         ⌜ r ≡ done .answer ⌝ ∗ ⌜ now (tray2 .exit) ≡ done .later ⌝ }
 {
-    let both = opened::open_sheets(sheet1, sheet2);
+    let both = openings::open_sheets(sheet1, sheet2);
     let refusal = both.refusal;
     if refusal.number != 0 {
         return Carried::Refused(refusal);
     }
     let one = both.one.layout;
     let two = both.two.layout;
-    let absent = ranges::pair_fault(one.elements as u64, i, two.elements as u64, j);
+    let absent = openings::pair_fault(one.elements as u64, i, two.elements as u64, j);
     if absent != 0 {
-        return Carried::Refused(opened::refusal(absent, 0));
+        return Carried::Refused(openings::call_refusal(absent, 0));
     }
-    let from = ranges::larger(one.displacement, two.displacement);
-    let fault = ranges::trays_fault(from, a, b, tray1.len() as u64, tray2.len() as u64);
+    let from = openings::larger(one.displacement, two.displacement);
+    let fault = openings::trays_fault(from, a, b, tray1.len() as u64, tray2.len() as u64);
     if fault != 0 {
-        return Carried::Refused(opened::refusal(fault, 0));
+        return Carried::Refused(openings::call_refusal(fault, 0));
     }
     let window = Window { start: a, end: b };
     trays::move_pair(

@@ -1,6 +1,6 @@
 -- `gather` meets its contract. Assumes nothing.
 use mathlib.Core.Path.{refl}
-use Rattle.astrephon.proofs.Orders.{parts}
+use Rattle.openings.proofs.Orders.{parts}
 use Rattle.astrephon.proofs.Transfers.{carry-asks, gathered-closed, gathered-done}
 use borrow.Author.Needs.{needs}
 use Rattle.astrephon.proofs.carrying.gather.Statement.{statement}

@@ -1,5 +1,6 @@
 -- `packed_len` meets its contract. Assumes nothing.
-use Rattle.astrephon.proofs.Transfers.{measured-closed, windowed, measured-done}
+use Rattle.openings.proofs.WindowOpens.{windowed}
+use Rattle.astrephon.proofs.Transfers.{measured-closed, measured-done}
 use borrow.Author.Needs.{needs}
 use Rattle.astrephon.proofs.carrying.packed_len.Statement.{statement}
 use Rattle.astrephon.proofs.carrying.packed_len.Tie as tie

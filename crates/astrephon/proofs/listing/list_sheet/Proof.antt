@@ -6,7 +6,7 @@ use Rattle.astrephon.proofs.listing.list_sheet.Statement.{statement}
 use Rattle.astrephon.proofs.listing.list_sheet.Tie as tie
 use Rattle.astrephon.proofs.listing.list_sheet.Reads as reads
 use Rattle.astrephon.proofs.listing.list_sheet.Lts as lts
-use Rattle.astrephon.proofs.opened.refusal.Reads as refusal-reads
+use Rattle.openings.proofs.refusal.Reads as refusal-reads
 use Rattle.copies.proofs.copy_run.Reads as copy-run-reads
 use Rattle.lines.proofs.put_listing.Reads as put-listing-reads
 

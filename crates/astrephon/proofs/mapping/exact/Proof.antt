@@ -1,6 +1,6 @@
 -- `exact` meets its contract. Assumes nothing.
 use Rattle.sheets.specs.Sheet.{readSheet}
-use Rattle.astrephon.proofs.Opens.{Opened, opened-is}
+use Rattle.openings.proofs.Opens.{Opened, opened-is}
 use Rattle.astrephon.proofs.Mappings.{exact-closed, exact-fault, exact-foreign, exact-at}
 use borrow.Author.Needs.{needs}
 use Rattle.astrephon.proofs.mapping.exact.Statement.{statement}
@@ -21,11 +21,11 @@ returns c = let o = c .before .before .before .before .before .open-element in e
 offset-fault-requires : tie.Need-offset-fault-requires
 offset-fault-requires c κs = search needs
 
-refusal-requires : tie.Need-refusal-requires
-refusal-requires c κs = search needs
+call-refusal-requires : tie.Need-call-refusal-requires
+call-refusal-requires c κs = search needs
 
 returns-2 : tie.Need-returns-2
-returns-2 c = exact-fault (opened (c .before .before .before)) _ _ (c .before .before .offset-fault .ensures) _ (c .refusal2 .ensures) (c .before .if2 .taken)
+returns-2 c = exact-fault (opened (c .before .before .before)) _ _ (c .before .before .offset-fault .ensures) _ (c .call-refusal .ensures) (c .before .if2 .taken)
 
 slice-aggregate-belongs-to : tie.Need-slice-aggregate-belongs-to
 slice-aggregate-belongs-to c = search needs
@@ -33,11 +33,11 @@ slice-aggregate-belongs-to c = search needs
 belongs-to-requires : tie.Need-belongs-to-requires
 belongs-to-requires c κs = opened (c .before .before .before) .ok
 
-refusal-requires-2 : tie.Need-refusal-requires-2
-refusal-requires-2 c κs = search needs
+call-refusal-requires-2 : tie.Need-call-refusal-requires-2
+call-refusal-requires-2 c κs = search needs
 
 returns-3 : tie.Need-returns-3
-returns-3 c = exact-foreign (opened (c .before .before .before .before .before .before)) _ _ (c .before .before .before .before .before .offset-fault .ensures) (c .before .before .before .before .if2 .left) _ (c .before .before .belongs-to .ensures) _ (c .refusal3 .ensures) (c .before .if3 .taken)
+returns-3 c = exact-foreign (opened (c .before .before .before .before .before .before)) _ _ (c .before .before .before .before .before .offset-fault .ensures) (c .before .before .before .before .if2 .left) _ (c .before .before .belongs-to .ensures) _ (c .call-refusal2 .ensures) (c .before .if3 .taken)
 
 slice-aggregate-file-rank : tie.Need-slice-aggregate-file-rank
 slice-aggregate-file-rank c = search needs
@@ -56,11 +56,11 @@ exact-spec =
     open-element-requires
     returns
     offset-fault-requires
-    refusal-requires
+    call-refusal-requires
     returns-2
     slice-aggregate-belongs-to
     belongs-to-requires
-    refusal-requires-2
+    call-refusal-requires-2
     returns-3
     slice-aggregate-file-rank
     file-rank-requires

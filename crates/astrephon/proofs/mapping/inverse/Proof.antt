@@ -1,7 +1,7 @@
 -- `inverse` meets its contract. Assumes nothing.
 use native.Mathlib.Omega.{arith}
 use Rattle.sheets.specs.Sheet.{readSheet}
-use Rattle.astrephon.proofs.Opens.{Opened, opened-is}
+use Rattle.openings.proofs.Opens.{Opened, opened-is}
 use Rattle.astrephon.proofs.Mappings.{inverse-closed, inverse-past, inverse-beyond, inverse-at}
 use borrow.Author.Needs.{needs}
 use Rattle.astrephon.proofs.mapping.inverse.Statement.{statement}
@@ -19,11 +19,11 @@ open-element-requires c κs = search needs
 returns : tie.Need-returns
 returns c = let o = c .before .before .before .before .open-element in inverse-closed _ _ (o .result) (o .ensures .0) (c .if1 .taken) _
 
-refusal-requires : tie.Need-refusal-requires
-refusal-requires c κs = search needs
+call-refusal-requires : tie.Need-call-refusal-requires
+call-refusal-requires c κs = search needs
 
 returns-2 : tie.Need-returns-2
-returns-2 c = inverse-past (opened (c .before .before .before)) _ (omega (arith, c .before .if2 .taken)) _ (c .refusal2 .ensures)
+returns-2 c = inverse-past (opened (c .before .before .before)) _ (omega (arith, c .before .if2 .taken)) _ (c .call-refusal .ensures)
 
 slice-aggregate-file-inverse : tie.Need-slice-aggregate-file-inverse
 slice-aggregate-file-inverse c = search needs
@@ -31,11 +31,11 @@ slice-aggregate-file-inverse c = search needs
 file-inverse-requires : tie.Need-file-inverse-requires
 file-inverse-requires c κs = (opened (c .before .before .before) .ok, omega (arith, c .before .if2 .left))
 
-refusal-requires-2 : tie.Need-refusal-requires-2
-refusal-requires-2 c κs = search needs
+call-refusal-requires-2 : tie.Need-call-refusal-requires-2
+call-refusal-requires-2 c κs = search needs
 
 returns-3 : tie.Need-returns-3
-returns-3 c = inverse-beyond (opened (c .before .before .before .before .before .before .before)) _ _ (c .before .before .before .file-inverse .ensures) (c .before .if3 .taken) _ (c .refusal3 .ensures)
+returns-3 c = inverse-beyond (opened (c .before .before .before .before .before .before .before)) _ _ (c .before .before .before .file-inverse .ensures) (c .before .if3 .taken) _ (c .call-refusal2 .ensures)
 
 returns-4 : tie.Need-returns-4
 returns-4 c = inverse-at (opened (c .before .before .before .before .before .before)) _ _ (c .before .before .file-inverse .ensures) (c .if3 .left)
@@ -47,10 +47,10 @@ inverse-spec =
     slice-aggregate-open-element
     open-element-requires
     returns
-    refusal-requires
+    call-refusal-requires
     returns-2
     slice-aggregate-file-inverse
     file-inverse-requires
-    refusal-requires-2
+    call-refusal-requires-2
     returns-3
     returns-4)

@@ -1,6 +1,6 @@
 -- `next` meets its contract. Assumes nothing.
 use Rattle.sheets.specs.Sheet.{readSheet}
-use Rattle.astrephon.proofs.Opens.{Opened, opened-is}
+use Rattle.openings.proofs.Opens.{Opened, opened-is}
 use Rattle.astrephon.proofs.Mappings.{next-closed, next-fault, next-at}
 use borrow.Author.Needs.{needs}
 use Rattle.astrephon.proofs.mapping.next.Statement.{statement}
@@ -21,11 +21,11 @@ returns c = let o = c .before .before .before .before .before .open-element in n
 offset-fault-requires : tie.Need-offset-fault-requires
 offset-fault-requires c κs = search needs
 
-refusal-requires : tie.Need-refusal-requires
-refusal-requires c κs = search needs
+call-refusal-requires : tie.Need-call-refusal-requires
+call-refusal-requires c κs = search needs
 
 returns-2 : tie.Need-returns-2
-returns-2 c = next-fault (opened (c .before .before .before)) _ _ (c .before .before .offset-fault .ensures) _ (c .refusal2 .ensures) (c .before .if2 .taken)
+returns-2 c = next-fault (opened (c .before .before .before)) _ _ (c .before .before .offset-fault .ensures) _ (c .call-refusal .ensures) (c .before .if2 .taken)
 
 slice-aggregate-file-rank : tie.Need-slice-aggregate-file-rank
 slice-aggregate-file-rank c = search needs
@@ -44,7 +44,7 @@ next-spec =
     open-element-requires
     returns
     offset-fault-requires
-    refusal-requires
+    call-refusal-requires
     returns-2
     slice-aggregate-file-rank
     file-rank-requires

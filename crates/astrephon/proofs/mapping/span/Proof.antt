@@ -1,6 +1,6 @@
 -- `span` meets its contract. Assumes nothing.
 use Rattle.sheets.specs.Sheet.{readSheet}
-use Rattle.astrephon.proofs.Opens.{Opened, opened-is}
+use Rattle.openings.proofs.Opens.{Opened, opened-is}
 use Rattle.astrephon.proofs.Mappings.{span-closed, span-fault, span-at}
 use borrow.Author.Needs.{needs}
 use Rattle.astrephon.proofs.mapping.span.Statement.{statement}
@@ -21,11 +21,11 @@ returns c = let o = c .before .before .before .before .before .open-element in s
 range-fault-requires : tie.Need-range-fault-requires
 range-fault-requires c κs = search needs
 
-refusal-requires : tie.Need-refusal-requires
-refusal-requires c κs = search needs
+call-refusal-requires : tie.Need-call-refusal-requires
+call-refusal-requires c κs = search needs
 
 returns-2 : tie.Need-returns-2
-returns-2 c = span-fault (opened (c .before .before .before)) _ _ _ (c .before .before .range-fault .ensures) _ (c .refusal2 .ensures) (c .before .if2 .taken)
+returns-2 c = span-fault (opened (c .before .before .before)) _ _ _ (c .before .before .range-fault .ensures) _ (c .call-refusal .ensures) (c .before .if2 .taken)
 
 slice-aggregate-file-rank : tie.Need-slice-aggregate-file-rank
 slice-aggregate-file-rank c = search needs
@@ -50,7 +50,7 @@ span-spec =
     open-element-requires
     returns
     range-fault-requires
-    refusal-requires
+    call-refusal-requires
     returns-2
     slice-aggregate-file-rank
     file-rank-requires

@@ -1,7 +1,7 @@
 -- `move_pair` meets its contract. Assumes nothing.
 use mathlib.Core.Path.{refl}
-use Rattle.astrephon.proofs.Orders.{parts}
-use Rattle.astrephon.proofs.Faults.{pair-known}
+use Rattle.openings.proofs.Orders.{parts}
+use Rattle.openings.proofs.Faults.{pair-known}
 use Rattle.astrephon.proofs.TrayMoves.{pair-closed, pair-absent, pair-fault, move-asks, pair-done}
 use borrow.Author.Needs.{needs}
 use Rattle.astrephon.proofs.moving.move_pair.Statement.{statement}
@@ -16,11 +16,11 @@ returns c = parts _ (pair-closed _ _ _ (c .before .before .before .open-sheets .
 pair-fault-requires : tie.Need-pair-fault-requires
 pair-fault-requires c κs = search needs
 
-refusal-requires : tie.Need-refusal-requires
-refusal-requires c κs = search needs
+call-refusal-requires : tie.Need-call-refusal-requires
+call-refusal-requires c κs = search needs
 
 returns-2 : tie.Need-returns-2
-returns-2 c = parts _ (pair-absent _ _ _ (c .before .before .before .before .before .before .before .before .open-sheets .ensures) _ _ _ _ (c .before .before .before .before .before .if1 .left) _ _ _ (c .before .before .pair-fault .ensures) _ (c .refusal2 .ensures) (c .before .if2 .taken))
+returns-2 c = parts _ (pair-absent _ _ _ (c .before .before .before .before .before .before .before .before .open-sheets .ensures) _ _ _ _ (c .before .before .before .before .before .if1 .left) _ _ _ (c .before .before .pair-fault .ensures) _ (c .call-refusal .ensures) (c .before .if2 .taken))
 
 larger-requires : tie.Need-larger-requires
 larger-requires c κs = search needs
@@ -28,11 +28,11 @@ larger-requires c κs = search needs
 trays-fault-requires : tie.Need-trays-fault-requires
 trays-fault-requires c κs = search needs
 
-refusal-requires-2 : tie.Need-refusal-requires-2
-refusal-requires-2 c κs = search needs
+call-refusal-requires-2 : tie.Need-call-refusal-requires-2
+call-refusal-requires-2 c κs = search needs
 
 returns-3 : tie.Need-returns-3
-returns-3 c = parts _ (pair-fault _ _ _ (c .before .before .before .before .before .before .before .before .before .before .before .open-sheets .ensures) _ _ _ _ (c .before .before .before .before .before .before .before .before .if1 .left) _ _ (c .before .before .before .larger .ensures) (c .before .before .trays-fault .ensures) _ _ _ (c .before .before .before .before .before .pair-fault .ensures) (c .before .before .before .before .if2 .left) _ (c .refusal3 .ensures) (c .before .if3 .taken))
+returns-3 c = parts _ (pair-fault _ _ _ (c .before .before .before .before .before .before .before .before .before .before .before .open-sheets .ensures) _ _ _ _ (c .before .before .before .before .before .before .before .before .if1 .left) _ _ (c .before .before .before .larger .ensures) (c .before .before .trays-fault .ensures) _ _ _ (c .before .before .before .before .before .pair-fault .ensures) (c .before .before .before .before .if2 .left) _ (c .call-refusal2 .ensures) (c .before .if3 .taken))
 
 move-pair-requires : tie.Need-move-pair-requires
 move-pair-requires c κs =
@@ -55,11 +55,11 @@ move-pair-spec =
     open-sheets-requires
     returns
     pair-fault-requires
-    refusal-requires
+    call-refusal-requires
     returns-2
     larger-requires
     trays-fault-requires
-    refusal-requires-2
+    call-refusal-requires-2
     returns-3
     move-pair-requires
     same-length

@@ -1,6 +1,6 @@
 -- `move_tray` meets its contract. Assumes nothing.
 use mathlib.Core.Path.{refl}
-use Rattle.astrephon.proofs.Orders.{parts}
+use Rattle.openings.proofs.Orders.{parts}
 use Rattle.astrephon.proofs.TrayMoves.{moved-closed, moved-fault, move-asks, moved-done}
 use borrow.Author.Needs.{needs}
 use Rattle.astrephon.proofs.moving.move_tray.Statement.{statement}
@@ -18,11 +18,11 @@ larger-requires c κs = search needs
 trays-fault-requires : tie.Need-trays-fault-requires
 trays-fault-requires c κs = search needs
 
-refusal-requires : tie.Need-refusal-requires
-refusal-requires c κs = search needs
+call-refusal-requires : tie.Need-call-refusal-requires
+call-refusal-requires c κs = search needs
 
 returns-2 : tie.Need-returns-2
-returns-2 c = parts _ (moved-fault _ _ _ (c .before .before .before .before .before .before .before .before .before .open-sheets .ensures) _ _ _ _ (c .before .before .before .before .before .before .if1 .left) _ _ (c .before .before .before .larger .ensures) (c .before .before .trays-fault .ensures) _ (c .refusal2 .ensures) (c .before .if2 .taken))
+returns-2 c = parts _ (moved-fault _ _ _ (c .before .before .before .before .before .before .before .before .before .open-sheets .ensures) _ _ _ _ (c .before .before .before .before .before .before .if1 .left) _ _ (c .before .before .before .larger .ensures) (c .before .before .trays-fault .ensures) _ (c .call-refusal .ensures) (c .before .if2 .taken))
 
 move-tray-requires : tie.Need-move-tray-requires
 move-tray-requires c κs =
@@ -43,7 +43,7 @@ move-tray-spec =
     returns
     larger-requires
     trays-fault-requires
-    refusal-requires
+    call-refusal-requires
     returns-2
     move-tray-requires
     same-length

@@ -2,9 +2,9 @@
 use mathlib.Core.Path.{_≡_, refl}
 use mathlib.Core.List.{[]}
 use Rattle.sheets.specs.Sheet.{readSheet}
-use Rattle.astrephon.proofs.Opens.{Opened, opened-is}
-use Rattle.astrephon.proofs.Orders.{parts}
-use Rattle.astrephon.proofs.PairOpens.{both-opened}
+use Rattle.openings.proofs.Opens.{Opened, opened-is}
+use Rattle.openings.proofs.Orders.{parts}
+use Rattle.openings.proofs.PairOpens.{both-opened}
 use Rattle.astrephon.proofs.Listings.{shared-closed, shared-asks, shared-fault, shared-room, shared-listed}
 use borrow.Author.Needs.{needs}
 use Rattle.astrephon.proofs.sharing.shared_runs.Statement.{statement}
@@ -46,11 +46,11 @@ larger-requires c κs = search needs
 range-fault-requires : tie.Need-range-fault-requires
 range-fault-requires c κs = search needs
 
-refusal-requires : tie.Need-refusal-requires
-refusal-requires c κs = search needs
+call-refusal-requires : tie.Need-call-refusal-requires
+call-refusal-requires c κs = search needs
 
 returns-2 : tie.Need-returns-2
-returns-2 c = let e = c .before .before .before .before .before .before in parts _ (shared-fault (opened1 e) (opened2 e) _ _ _ _ (c .before .before .before .larger .ensures) (c .before .before .range-fault .ensures) _ _ (c .refusal .ensures) (c .before .if2 .taken))
+returns-2 c = let e = c .before .before .before .before .before .before in parts _ (shared-fault (opened1 e) (opened2 e) _ _ _ _ (c .before .before .before .larger .ensures) (c .before .before .range-fault .ensures) _ _ (c .call-refusal .ensures) (c .before .if2 .taken))
 
 slice-aggregate-list-shared : tie.Need-slice-aggregate-list-shared
 slice-aggregate-list-shared c = search needs
@@ -61,14 +61,14 @@ slice-aggregate-list-shared-2 c = search needs
 list-shared-requires : tie.Need-list-shared-requires
 list-shared-requires c κs = let e = c .before .before .before .before .before .before .before .before in shared-asks (opened1 e) (opened2 e) _ _ _ _ (c .before .before .before .before .before .larger .ensures) (c .before .before .before .before .range-fault .ensures) [] _ refl refl (c .before .before .before .if2 .left)
 
-refusal-requires-2 : tie.Need-refusal-requires-2
-refusal-requires-2 c κs = search needs
+call-refusal-requires-2 : tie.Need-call-refusal-requires-2
+call-refusal-requires-2 c κs = search needs
 
 same-length : tie.Need-same-length
 same-length c = search needs
 
 returns-3 : tie.Need-returns-3
-returns-3 c = let e = c .before .before .before .before .before .before .before .before .before .before .before .before .before in let l = c .before .before .before .before .list-shared in parts _ (shared-room (opened1 e) (opened2 e) _ _ _ _ (c .before .before .before .before .before .before .before .before .before .before .larger .ensures) (c .before .before .before .before .before .before .before .before .before .range-fault .ensures) _ (c .before .before .before .before .before .before .before .before .if2 .left) _ (l .ensures .number) _ (l .ensures .list) _ (c .refusal2 .ensures) (c .before .if3 .taken))
+returns-3 c = let e = c .before .before .before .before .before .before .before .before .before .before .before .before .before in let l = c .before .before .before .before .list-shared in parts _ (shared-room (opened1 e) (opened2 e) _ _ _ _ (c .before .before .before .before .before .before .before .before .before .before .larger .ensures) (c .before .before .before .before .before .before .before .before .before .range-fault .ensures) _ (c .before .before .before .before .before .before .before .before .if2 .left) _ (l .ensures .number) _ (l .ensures .list) _ (c .call-refusal2 .ensures) (c .before .if3 .taken))
 
 same-length-2 : tie.Need-same-length-2
 same-length-2 c = search needs
@@ -88,12 +88,12 @@ shared-runs-spec =
     returns
     larger-requires
     range-fault-requires
-    refusal-requires
+    call-refusal-requires
     returns-2
     slice-aggregate-list-shared
     slice-aggregate-list-shared-2
     list-shared-requires
-    refusal-requires-2
+    call-refusal-requires-2
     same-length
     returns-3
     same-length-2

@@ -1,0 +1,55 @@
+-- `open_element` meets its contract. Assumes nothing.
+use native.Mathlib.Omega.{arith}
+use Rattle.openings.proofs.Opens.{sheet-closed, layout-rules, element-closed, element-opened}
+use borrow.Author.Needs.{needs}
+use Rattle.openings.proofs.opened.open_element.Statement.{statement}
+use Rattle.openings.proofs.opened.open_element.Tie as tie
+
+read-requires : tie.Need-read-requires
+read-requires c κs = search needs
+
+closed-requires : tie.Need-closed-requires
+closed-requires c κs = search needs
+
+returns : tie.Need-returns
+returns c = sheet-closed _ _ _ (c .before .before .before .read .ensures) _ _ (c .closed .ensures) (c .before .if1 .taken)
+
+call-refusal-requires : tie.Need-call-refusal-requires
+call-refusal-requires c κs = search needs
+
+closed-requires-2 : tie.Need-closed-requires-2
+closed-requires-2 c κs = search needs
+
+returns-2 : tie.Need-returns-2
+returns-2 c = element-closed _ _ _ (c .before .before .before .before .before .before .read .ensures) _ (c .before .before .before .before .if1 .left) _ _ (c .before .call-refusal .ensures) (c .closed2 .ensures) (omega (arith, c .before .before .if2 .taken))
+
+lay-out-requires : tie.Need-lay-out-requires
+lay-out-requires c κs = search needs
+
+selection-of-requires : tie.Need-selection-of-requires
+selection-of-requires c κs = (c .before .before .before .lay-out .ensures, (layout-rules _ _ (c .before .before .before .before .before .before .before .before .before .read .ensures) (c .before .before .before .before .before .before .before .if1 .left), omega (arith, c .before .before .before .before .before .if2 .left)))
+
+call-refusal-requires-2 : tie.Need-call-refusal-requires-2
+call-refusal-requires-2 c κs = search needs
+
+same-length : tie.Need-same-length
+same-length c = search needs
+
+returns-3 : tie.Need-returns-3
+returns-3 c = element-opened _ _ _ (c .before .before .before .before .before .before .before .before .before .before .before .read .ensures) _ (c .before .before .before .before .before .before .before .before .before .if1 .left) _ _ _ (c .call-refusal2 .ensures) (c .before .selection-of .ensures) (c .before .before .before .before .before .lay-out .ensures) (c .before .before .before .before .before .before .before .if2 .left)
+
+pub open-element-spec : {M : Type 1} → statement M
+open-element-spec =
+    tie.close
+    (tie.spec
+    read-requires
+    closed-requires
+    returns
+    call-refusal-requires
+    closed-requires-2
+    returns-2
+    lay-out-requires
+    selection-of-requires
+    call-refusal-requires-2
+    same-length
+    returns-3)

@@ -1,0 +1,4 @@
+pub mod Refusals
+pub mod Offsets
+pub mod Buffers
+pub mod Openings

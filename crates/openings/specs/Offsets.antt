@@ -1,0 +1,58 @@
+-- The file offsets of an element, and what the calls check of offsets. Assumes nothing: these are definitions.
+use mathlib.Core.Bool.{Bool}
+use mathlib.Core.List.{List, [], _∷_}
+use Prim.Native.Nat.{ℕ, _-_, _^_}
+use lib.Dec.{ltb, leb}
+use Rattle.counting.specs.Count.{countBelow, nth}
+use Rattle.counting.specs.Periodic.{owns}
+use Rattle.families.specs.Forest.{has}
+use Rattle.families.specs.Decoded.{treeOf}
+use Rattle.sheets.specs.declared.Reading.{Reading}
+use Rattle.sheets.specs.Refusals.{Test, _when_}
+use Rattle.openings.specs.declared.Refusal.{Refusal}
+use Rattle.openings.specs.Refusals.{ELEMENT, BEFORE, FAR, WINDOW, unlessSheet, unlessSheets, unlessFault}
+
+-- file offsets are below this
+abbrev pub LIMIT : ℕ
+LIMIT = 2 ^ 40
+
+-- THE FILE OFFSETS of element e: from the displacement on, those whose place in the pattern the element's families select
+unfoldable pub offsetsOf : Reading → (e : ℕ) → ℕ → Bool
+offsetsOf r e x = owns (r .layout .displacement) (r .size) (has (treeOf 4 (r .layout) e)) x
+
+-- THE RANK of x: how many file offsets below x are the element's
+abbrev pub rankOf : Reading → (e x : ℕ) → ℕ
+rankOf r e x = countBelow (offsetsOf r e) x
+
+-- the file offset of byte y of the subfile, and the limit where it has none below that
+abbrev pub placeOf : Reading → (e y : ℕ) → ℕ
+placeOf r e y = nth (offsetsOf r e) LIMIT y
+
+-- ---- what is checked: an element's index
+abbrev pub elementTest : Reading → (e : ℕ) → Test
+elementTest r e = ELEMENT when leb (r .layout .elements) e
+
+-- .. in a call on one element, after its sheet; and in one on an element of each of two sheets, after both
+abbrev pub unlessElement : {A : Type 0} → (refused : Refusal → A) → Reading → (e : ℕ) → (next : A) → A
+unlessElement refused r e next = unlessSheet refused 1 r (unlessFault refused (elementTest r e ∷ []) next)
+
+abbrev pub unlessElements : {A : Type 0} → (refused : Refusal → A) → (r1 r2 : Reading) → (i j : ℕ) → (next : A) → A
+unlessElements refused r1 r2 i j next = unlessSheets refused r1 r2 (unlessFault refused (elementTest r1 i ∷ elementTest r2 j ∷ []) next)
+
+-- a file offset, where the displacement is d
+abbrev pub offsetTests : (d x : ℕ) → List Test
+offsetTests d x = (BEFORE when ltb x d) ∷ (FAR when leb LIMIT x) ∷ []
+
+-- from a to b, where b may be `most`: an interval, both ends of which are offsets, and a window, to which its end does not belong
+abbrev pub rangeTests : (most d a b : ℕ) → List Test
+rangeTests most d a b = (WINDOW when ltb b a) ∷ (BEFORE when ltb a d) ∷ (FAR when ltb most b) ∷ []
+
+abbrev pub intervalTests : (d a z : ℕ) → List Test
+intervalTests d a z = rangeTests (LIMIT - 1) d a z
+
+abbrev pub windowTests : (d a b : ℕ) → List Test
+windowTests d a b = rangeTests LIMIT d a b
+
+-- an element and a window
+abbrev pub unlessWindow : {A : Type 0} → (refused : Refusal → A) → Reading → (e a b : ℕ) → (next : A) → A
+unlessWindow refused r e a b next = unlessElement refused r e (unlessFault refused (windowTests (r .layout .displacement) a b) next)

@@ -1,0 +1,84 @@
+// What is checked of indexes, offsets and lengths: the number that refuses them, or 0.
+ghost use mathlib.Core.Path.{_≡_};
+ghost use mathlib.Core.List.{[], _∷_, _++_};
+ghost use Prim.Native.Nat.{_-_, max};
+ghost use lib.Dec.{leb};
+ghost use Rattle.sheets.specs.Refusals.{firstFault, _when_};
+ghost use Rattle.openings.specs.Refusals.{ELEMENT};
+ghost use Rattle.openings.specs.Offsets.{offsetTests, rangeTests, windowTests};
+ghost use Rattle.openings.specs.Buffers.{bufferTests};
+use families::FileOffset;
+
+// Of the indexes of a pair, where the sheets have m and n elements.
+pub fn pair_fault(m: u64, i: u64, n: u64, j: u64) -> u8
+    ensures { λ r. ⌜ r ≡ firstFault ((ELEMENT when leb m i) ∷ (ELEMENT when leb n j) ∷ []) ⌝ }
+{
+    if m <= i {
+        return crate::ELEMENT;
+    }
+    if n <= j {
+        return crate::ELEMENT;
+    }
+    0
+}
+
+// Of one file offset, where the displacement is `from`.
+pub fn offset_fault(from: u32, x: FileOffset) -> u8
+    ensures { λ r. ⌜ r ≡ firstFault (offsetTests from (x .0)) ⌝ }
+{
+    if x.0 < from as u64 {
+        return crate::BEFORE;
+    }
+    if crate::LIMIT <= x.0 {
+        return crate::FAR;
+    }
+    0
+}
+
+// Of an interval or a window from a to b, where b may be `most`.
+pub fn range_fault(most: u64, from: u32, a: FileOffset, b: FileOffset) -> u8
+    ensures { λ r. ⌜ r ≡ firstFault (rangeTests most from (a .0) (b .0)) ⌝ }
+{
+    if b.0 < a.0 {
+        return crate::WINDOW;
+    }
+    if a.0 < from as u64 {
+        return crate::BEFORE;
+    }
+    if most < b.0 {
+        return crate::FAR;
+    }
+    0
+}
+
+// Of the lengths of a file buffer and a packed one, where the window has `bytes` bytes, `count` of them the element's.
+pub fn buffer_fault(file: u64, bytes: u64, packed: u64, count: u64) -> u8
+    ensures { λ r. ⌜ r ≡ firstFault (bufferTests file bytes packed count) ⌝ }
+{
+    if file != bytes {
+        return crate::BUFFER;
+    }
+    if packed != count {
+        return crate::BUFFER;
+    }
+    0
+}
+
+// Of a window and the lengths of two trays of it.
+pub fn trays_fault(from: u32, a: FileOffset, b: FileOffset, one: u64, two: u64) -> u8
+    ensures { λ r. ⌜ r ≡ firstFault (windowTests from (a .0) (b .0) ++ bufferTests one (b .0 - a .0) two (b .0 - a .0)) ⌝ }
+{
+    let fault = range_fault(crate::LIMIT, from, a, b);
+    if fault != 0 {
+        return fault;
+    }
+    let bytes = b.0 - a.0;
+    buffer_fault(one, bytes, two, bytes)
+}
+
+// The larger of two displacements.
+pub fn larger(d: u32, e: u32) -> u32
+    ensures { λ r. ⌜ r ≡ max d e ⌝ }
+{
+    if d < e { e } else { d }
+}
