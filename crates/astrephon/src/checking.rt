@@ -3,7 +3,6 @@ ghost use mathlib.Core.Path.{_≡_};
 ghost use Rattle.astrephon.specs.Check.{checkCall};
 use crate::Checked;
 use crate::Facts;
-use crate::Refusal;
 
 // Whether the bytes are the sheet of a layout: its facts, or the first refusal in 01's order.
 pub fn check(sheet: &[u8]) -> Checked
@@ -11,12 +10,7 @@ pub fn check(sheet: &[u8]) -> Checked
 {
     let reading = sheets::read(sheet);
     if reading.number != 0 {
-        return Checked::Refused(Refusal {
-            number: reading.number,
-            sheet: 1,
-            place: reading.place,
-            flag: reading.flag,
-        });
+        return Checked::Refused(openings::sheet_refusal(1, reading));
     }
     let layout = reading.layout;
     Checked::Accepted(Facts {

@@ -22,12 +22,12 @@ module _ (xs ys : List ℕ) (r1 r2 : Reading) (read1 : r1 ≡ readSheet xs) (rea
   unfolding sheetsOf
   of-sheets f q = ap found q ∙ ap₂ sheetsOf read1 read2
 
-  pub first-closed : (r1 .number ≡ 0 → ⊥) → found (sheetRefusal 1 r1) ≡ sheetsOf (readSheet xs) (readSheet ys)
-  first-closed d = of-sheets _ (sheet-refused (λ g. g) _ 1 r1 d)
+  pub first-closed : (f : Refusal) → f ≡ sheetRefusal 1 r1 → (r1 .number ≡ 0 → ⊥) → found f ≡ sheetsOf (readSheet xs) (readSheet ys)
+  first-closed f q d = of-sheets f (q ∙ sheet-refused (λ g. g) _ 1 r1 d)
 
   module _ (fine : r1 .number ≡ 0) where
-    pub second-closed : (r2 .number ≡ 0 → ⊥) → found (sheetRefusal 2 r2) ≡ sheetsOf (readSheet xs) (readSheet ys)
-    second-closed d = of-sheets _ (sheet-refused (λ g. g) _ 2 r2 d ∙ sheet-passed (λ g. g) _ 1 r1 fine)
+    pub second-closed : (f : Refusal) → f ≡ sheetRefusal 2 r2 → (r2 .number ≡ 0 → ⊥) → found f ≡ sheetsOf (readSheet xs) (readSheet ys)
+    second-closed f q d = of-sheets f (q ∙ sheet-refused (λ g. g) _ 2 r2 d ∙ sheet-passed (λ g. g) _ 1 r1 fine)
 
     pub none-closed : (f : Refusal) → f ≡ callRefusal 0 0 → r2 .number ≡ 0 → found f ≡ sheetsOf (readSheet xs) (readSheet ys)
     none-closed f q z = of-sheets f (q ∙ sheet-passed (λ g. g) _ 2 r2 z ∙ sheet-passed (λ g. g) _ 1 r1 fine)

@@ -38,9 +38,12 @@ module _ (k : ℕ) (xs : List ℕ) (r : Reading) (read : r ≡ readSheet xs) (e 
   closed-number : (o : Opening) (f : Refusal) → o ≡ closedBy f → o .refusal .number ≡ f .number
   closed-number o f q = ap (λ (p : Opening). p .refusal .number) q
 
-  pub sheet-closed : {C : Type 0} (o : Opening) → o ≡ closedBy (sheetRefusal k r) → (r .number ≡ 0 → ⊥) → (o ≡ openingOf k (readSheet xs) e) × (o .refusal .number ≡ 0 → C)
+  pub sheet-closed : {C : Type 0} (f : Refusal) (o : Opening) → f ≡ sheetRefusal k r → o ≡ closedBy f → (r .number ≡ 0 → ⊥)
+      → (o ≡ openingOf k (readSheet xs) e) × (o .refusal .number ≡ 0 → C)
   unfolding openingOf
-  sheet-closed o q d = (of-sheet o (q ∙ sheet-refused closedBy _ k r d), λ z. absurd (d (sym (closed-number o (sheetRefusal k r) q) ∙ z)))
+  sheet-closed f o p q d =
+      let number : o .refusal .number ≡ r .number = closed-number o f q ∙ ap (λ (g : Refusal). g .number) p in
+      (of-sheet o (q ∙ ap closedBy p ∙ sheet-refused closedBy _ k r d), λ z. absurd (d (sym number ∙ z)))
 
   module _ (fine : r .number ≡ 0) where
     pub element-closed : {C : Type 0} (f : Refusal) (o : Opening) → f ≡ callRefusal ELEMENT 0 → o ≡ closedBy f → r .layout .elements ≤ e

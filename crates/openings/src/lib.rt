@@ -15,6 +15,7 @@ pub use opened::open_buffers;
 pub use opened::open_element;
 pub use opened::open_sheets;
 pub use opened::open_window;
+pub use opened::sheet_refusal;
 pub use opened::sooner;
 pub use ranges::buffer_fault;
 pub use ranges::larger;

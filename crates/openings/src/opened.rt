@@ -6,7 +6,7 @@ ghost use Rattle.counting.specs.Count.{countBelow};
 ghost use Rattle.families.specs.Decoded.{rowOf};
 ghost use Rattle.sheets.specs.Sheet.{readSheet};
 ghost use Rattle.maps.specs.Selected.{belongs, Selection·ok};
-ghost use Rattle.openings.specs.Refusals.{callRefusal};
+ghost use Rattle.openings.specs.Refusals.{sheetRefusal, callRefusal};
 ghost use Rattle.openings.specs.Openings.{closedBy, openingOf, windowOf, buffersOf, soonerOf, sheetsOf};
 use crate::Opening;
 use crate::Refusal;
@@ -14,6 +14,19 @@ use crate::Sheets;
 use crate::ranges;
 use families::FileOffset;
 use maps::Selection;
+use sheets::Reading;
+
+// The refusal of the k-th sheet of a call, as its reading says.
+pub fn sheet_refusal(k: u8, reading: Reading) -> Refusal
+    ensures { λ r. ⌜ r ≡ sheetRefusal k reading ⌝ }
+{
+    Refusal {
+        number: reading.number,
+        sheet: k,
+        place: reading.place,
+        flag: reading.flag,
+    }
+}
 
 // A refusal that blames no sheet.
 pub fn call_refusal(number: u8, place: u64) -> Refusal
@@ -52,12 +65,7 @@ pub fn open_element(sheet: &[u8], k: u8, element: u64, numbers: &mut [u32]) -> O
 {
     let reading = sheets::read(sheet);
     if reading.number != 0 {
-        return closed(Refusal {
-            number: reading.number,
-            sheet: k,
-            place: reading.place,
-            flag: reading.flag,
-        });
+        return closed(sheet_refusal(k, reading));
     }
     let layout = reading.layout;
     let size = reading.size;
@@ -166,19 +174,9 @@ pub fn open_sheets(sheet1: &[u8], sheet2: &[u8]) -> Sheets
     let two = sheets::read(sheet2);
     let mut refusal = call_refusal(0, 0);
     if one.number != 0 {
-        refusal = Refusal {
-            number: one.number,
-            sheet: 1,
-            place: one.place,
-            flag: one.flag,
-        };
+        refusal = sheet_refusal(1, one);
     } else if two.number != 0 {
-        refusal = Refusal {
-            number: two.number,
-            sheet: 2,
-            place: two.place,
-            flag: two.flag,
-        };
+        refusal = sheet_refusal(2, two);
     }
     Sheets { refusal, one, two }
 }

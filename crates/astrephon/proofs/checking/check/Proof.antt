@@ -8,8 +8,11 @@ use Rattle.astrephon.proofs.checking.check.Tie as tie
 read-requires : tie.Need-read-requires
 read-requires c κs = search needs
 
+sheet-refusal-requires : tie.Need-sheet-refusal-requires
+sheet-refusal-requires c κs = search needs
+
 returns : tie.Need-returns
-returns c = check-refused _ _ (c .before .before .read .ensures) (c .if1 .taken)
+returns c = check-refused _ _ (c .before .before .before .read .ensures) _ (c .sheet-refusal .ensures) (c .before .if1 .taken)
 
 cast-t6 : tie.Need-cast-t6
 cast-t6 c = omega (arith, elements-few _ _ (c .before .before .before .before .read .ensures) (c .before .before .if1 .left))
@@ -18,4 +21,4 @@ returns-2 : tie.Need-returns-2
 returns-2 c = check-accepted _ _ (c .before .before .before .before .read .ensures) (c .before .before .if1 .left)
 
 pub check-spec : {M : Type 1} → statement M
-check-spec = tie.close (tie.spec read-requires returns cast-t6 returns-2)
+check-spec = tie.close (tie.spec read-requires sheet-refusal-requires returns cast-t6 returns-2)

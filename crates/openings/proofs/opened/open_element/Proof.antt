@@ -8,11 +8,14 @@ use Rattle.openings.proofs.opened.open_element.Tie as tie
 read-requires : tie.Need-read-requires
 read-requires c κs = search needs
 
+sheet-refusal-requires : tie.Need-sheet-refusal-requires
+sheet-refusal-requires c κs = search needs
+
 closed-requires : tie.Need-closed-requires
 closed-requires c κs = search needs
 
 returns : tie.Need-returns
-returns c = sheet-closed _ _ _ (c .before .before .before .read .ensures) _ _ (c .closed .ensures) (c .before .if1 .taken)
+returns c = sheet-closed _ _ _ (c .before .before .before .before .read .ensures) _ _ _ (c .before .sheet-refusal .ensures) (c .closed .ensures) (c .before .before .if1 .taken)
 
 call-refusal-requires : tie.Need-call-refusal-requires
 call-refusal-requires c κs = search needs
@@ -43,6 +46,7 @@ open-element-spec =
     tie.close
     (tie.spec
     read-requires
+    sheet-refusal-requires
     closed-requires
     returns
     call-refusal-requires

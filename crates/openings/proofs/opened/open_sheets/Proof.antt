@@ -13,15 +13,30 @@ read-requires-2 c κs = search needs
 call-refusal-requires : tie.Need-call-refusal-requires
 call-refusal-requires c κs = search needs
 
+sheet-refusal-requires : tie.Need-sheet-refusal-requires
+sheet-refusal-requires c κs = search needs
+
+sheet-refusal-requires-2 : tie.Need-sheet-refusal-requires-2
+sheet-refusal-requires-2 c κs = search needs
+
 returns : tie.Need-returns
-returns c = first-closed _ _ _ _ (c .before .before .before .before .read .ensures) (c .before .before .before .read2 .ensures) (c .if1 .taken)
+returns c = first-closed _ _ _ _ (c .before .before .before .before .before .read .ensures) (c .before .before .before .before .read2 .ensures) _ (c .sheet-refusal .ensures) (c .before .if1 .taken)
 
 returns-2 : tie.Need-returns-2
-returns-2 c = second-closed _ _ _ _ (c .before .before .before .before .before .before .read .ensures) (c .before .before .before .before .before .read2 .ensures) (c .before .before .if1 .left) (c .if2 .taken)
+returns-2 c = second-closed _ _ _ _ (c .before .before .before .before .before .before .before .read .ensures) (c .before .before .before .before .before .before .read2 .ensures) (c .before .before .before .if1 .left) _ (c .sheet-refusal2 .ensures) (c .before .if2 .taken)
 
 returns-3 : tie.Need-returns-3
 returns-3 c = none-closed _ _ _ _ (c .before .before .before .before .before .before .read .ensures) (c .before .before .before .before .before .read2 .ensures) (c .before .before .if1 .left) _ (c .before .before .before .before .call-refusal .ensures) (c .if2 .left)
 
 pub open-sheets-spec : {M : Type 1} → statement M
 open-sheets-spec =
-    tie.close (tie.spec read-requires read-requires-2 call-refusal-requires returns returns-2 returns-3)
+    tie.close
+    (tie.spec
+    read-requires
+    read-requires-2
+    call-refusal-requires
+    sheet-refusal-requires
+    sheet-refusal-requires-2
+    returns
+    returns-2
+    returns-3)
