@@ -21,8 +21,8 @@ use Rattle.maps.specs.declared.Selection.{Selection}
 use Rattle.maps.specs.declared.Window.{Window}
 use Rattle.maps.specs.Selected.{belongs, selectionOf, elementsOf, Pattern·ok}
 use Rattle.runs.specs.Walking.{Window·ok}
-use Rattle.trays.specs.declared.shares.Share.{Share}
-use Rattle.trays.specs.Parts.{bytesOf, shareAt, ShareOf, SharesOf}
+use Rattle.parts.specs.declared.shares.Share.{Share}
+use Rattle.parts.specs.Pieces.{bytesOf, shareAt, ShareOf, SharesOf}
 use Rattle.trays.proofs.Layouts.{elements-length, elements-share, selection-belongs, selection-size}
 
 -- ---- a share's four numbers, and four stores that write them

@@ -18,8 +18,9 @@ use Rattle.counting.proofs.Elements.{first-lt, first-has, first-only}
 use Rattle.counting.proofs.Gathers.{gathered-ext, getD-gathered}
 use Rattle.counting.proofs.Trays.{tray-ext, tray-length, tray-of}
 use Rattle.counting.proofs.TrayParts.{tray-part, tray-put}
-use Rattle.trays.specs.declared.parts.Chosen.{Chosen}
-use Rattle.trays.specs.Parts.{takes, renewed, within, movedWhere}
+use Rattle.parts.specs.declared.choices.Chosen.{Chosen}
+use Rattle.parts.specs.Pieces.{takes, renewed}
+use Rattle.trays.specs.Parts.{within, movedWhere}
 
 -- ---- the elements that are chosen
 within-none : (M : Elements) (k x : ℕ) → within M k k x ≡ false

@@ -21,7 +21,8 @@ use Rattle.maps.specs.Selected.{familiesOf, belongs, selectionOf, elementsOf, P
 use Rattle.maps.proofs.Chosen.{belongs-tree}
 use Rattle.moves.specs.Strides.{AheadBy, around, Strides}
 use Rattle.moves.specs.Owning.{heldBy}
-use Rattle.trays.specs.Tables.{tabled, Tables}
+use Rattle.parts.specs.Tabled.{tabled}
+use Rattle.trays.specs.Tables.{Tables}
 use Rattle.trays.proofs.Choosing.{chosen-ok}
 use Rattle.moves.proofs.Looking.{ahead-by-place}
 

@@ -3,9 +3,6 @@ pub mod Firsts
 pub mod Owners
 pub mod Ranking
 pub mod Rooming
-pub mod Cycling
-pub mod Piecing
-pub mod Renewing
 pub mod Choices
 pub mod Layouts
 pub mod Allotting

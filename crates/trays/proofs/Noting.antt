@@ -11,11 +11,13 @@ use Rattle.families.specs.declared.Layout.{Layout}
 use Rattle.families.specs.Decoded.{rowOf}
 use Rattle.maps.specs.declared.Window.{Window}
 use Rattle.maps.specs.Selected.{elementsOf, Pattern·ok}
-use Rattle.trays.specs.declared.parts.Chosen.{Chosen}
 use Rattle.moves.specs.Strides.{Filled}
 use Rattle.moves.specs.Owning.{heldBy}
-use Rattle.trays.specs.Tables.{FitsAll, RoomFor, Tables, Ranked, Counted·ok}
-use Rattle.trays.specs.Parts.{bytesOf, cycleOf, SharesOf, Sources, Targets, movedWhere, everyPair, onePair, Chosen·ok, Lengths, Trays·ok, Starts, Laid, Rooms}
+use Rattle.parts.specs.declared.choices.Chosen.{Chosen}
+use Rattle.parts.specs.Tabled.{Ranked}
+use Rattle.parts.specs.Pieces.{bytesOf, SharesOf, Sources, everyPair, onePair}
+use Rattle.trays.specs.Tables.{FitsAll, RoomFor, Tables, Counted·ok}
+use Rattle.trays.specs.Parts.{cycleOf, Targets, movedWhere, Chosen·ok, Lengths, Trays·ok, Starts, Laid, Rooms}
 use Rattle.trays.proofs.Layouts.{elements-length, elements-share, tables-strides, tables-ahead}
 use Rattle.trays.proofs.Choices.{length-where, where-all, where-pair}
 

@@ -22,7 +22,8 @@ use Rattle.families.specs.Owners.{owner}
 use Rattle.families.proofs.Owning.{owner-one}
 use Rattle.maps.specs.Selected.{elementsOf, Pattern·ok}
 use Rattle.moves.specs.Owning.{heldBy, Nexts, AllFilled}
-use Rattle.trays.specs.Tables.{tabled, Owned, NextsOf, Tables}
+use Rattle.parts.specs.Tabled.{tabled, Owned}
+use Rattle.trays.specs.Tables.{NextsOf, Tables}
 
 -- ---- what each element has of the pattern
 module _ (t : Layout) where

@@ -16,11 +16,12 @@ use Rattle.families.specs.declared.Layout.{Layout}
 use Rattle.maps.specs.declared.Selection.{Selection}
 use Rattle.maps.specs.declared.Window.{Window}
 use Rattle.maps.specs.Selected.{belongs, selectionOf, elementsOf}
-use Rattle.trays.specs.declared.parts.Chosen.{Chosen}
-use Rattle.trays.specs.declared.shares.Share.{Share}
+use Rattle.parts.specs.declared.choices.Chosen.{Chosen}
+use Rattle.parts.specs.declared.shares.Share.{Share}
 use Rattle.moves.specs.Strides.{Strides}
 use Rattle.moves.specs.Walks.{Carries}
-use Rattle.trays.specs.Parts.{bytesOf, shareAt, ShareOf, takes, renewed, movedWhere, Targets, Trays·ok}
+use Rattle.parts.specs.Pieces.{bytesOf, shareAt, ShareOf, takes, renewed}
+use Rattle.trays.specs.Parts.{movedWhere, Targets, Trays·ok}
 use Rattle.trays.proofs.Layouts.{elements-length, elements-share, selection-belongs, selection-from}
 use Rattle.trays.proofs.Choosing.{chosen-ok}
 use Rattle.trays.proofs.Choices.{length-where, where-none, where-more}

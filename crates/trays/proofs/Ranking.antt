@@ -12,7 +12,8 @@ use Rattle.counting.specs.Count.{countBelow}
 use Rattle.counting.proofs.Cases.{same-or-not}
 use Rattle.counting.proofs.Counts.{count-zero, count-here, count-skip, count-le}
 use Rattle.moves.specs.Owning.{heldBy}
-use Rattle.trays.specs.Tables.{Ranked, Counted·ok}
+use Rattle.parts.specs.Tabled.{Ranked}
+use Rattle.trays.specs.Tables.{Counted·ok}
 
 pub record Ranking (owners : List ℕ) (period : ℕ) (counts₀ ranks₀ counts ranks : List ℕ) (u : ℕ) : Type 0 where
   pub ok : Counted·ok owners period counts₀ ranks₀

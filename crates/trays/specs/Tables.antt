@@ -1,28 +1,15 @@
--- A layout by a table of who has each place of a period, and what is written down of every place. Assumes nothing: these are definitions.
+-- What is written down of every place of a layout's pattern, and the room for it. Assumes nothing: these are definitions.
 use mathlib.Core.Path.{_≡_}
 use mathlib.Core.List.{List}
-use Prim.Native.Nat.{ℕ, suc, _+_, _-_, _^_, _≤_, _<_}
+use Prim.Native.Nat.{ℕ, suc, _-_, _^_, _≤_, _<_}
 use lib.ListN.{length, getD, replicate}
-use Rattle.counting.specs.Count.{countBelow}
-use Rattle.counting.specs.Periodic.{owns}
-use Rattle.counting.specs.Gather.{tabulated}
-use Rattle.counting.specs.Elements.{Elements}
 use Rattle.families.specs.declared.Layout.{Layout}
 use Rattle.families.specs.Forest.{has}
 use Rattle.families.specs.Decoded.{treeOf, Layout·ok}
 use Rattle.maps.specs.Selected.{elementsOf}
 use Rattle.moves.specs.Strides.{First, Filled, Room}
 use Rattle.moves.specs.Owning.{heldBy}
-
--- THE LAYOUT that a table stands for: `count` elements, from `from` on again every period
-unfoldable pub tabled : (count from period : ℕ) → (owners : List ℕ) → Elements
-tabled count from period owners = tabulated 0 count (λ e. owns from period (heldBy owners (suc e)))
-
--- every place of a period is an element's
-pub record Owned (count period : ℕ) (owners : List ℕ) : Type 0 where
-  pub held : period ≤ length owners
-  pub some : (u : ℕ) → u < period → 1 ≤ getD owners u 0
-  pub most : (u : ℕ) → u < period → getD owners u 0 ≤ count
+use Rattle.parts.specs.Tabled.{tabled, Owned}
 
 -- by owner, the first place that it has in the second of two periods: element e's stands at e + 1
 pub record NextsOf (t : Layout) (size : ℕ) (nexts : List ℕ) : Type 0 where
@@ -51,12 +38,7 @@ pub record Tables (t : Layout) (size : ℕ) (owners runs hops : List ℕ) : Type
   pub is : tabled (t .elements) (t .displacement) size owners ≡ elementsOf t size
   pub each : (e : ℕ) → e < t .elements → Filled (heldBy owners (suc e)) size runs hops
 
--- ---- how many places before each are its owner's
-pub record Ranked (owners : List ℕ) (period : ℕ) (ranks : List ℕ) : Type 0 where
-  pub held : period ≤ length ranks
-  pub each : (u : ℕ) → u < period → getD ranks u 0 ≡ countBelow (heldBy owners (getD owners u 0)) u
-
--- .. and what the code asks to count them
+-- what the code asks to count how many places before each are its owner's
 pub record Counted·ok (owners : List ℕ) (period : ℕ) (counts ranks : List ℕ) : Type 0 where
   pub held : period ≤ length owners
   pub room : period ≤ length ranks

@@ -4,15 +4,16 @@ ghost use Prim.Native.Nat.{_≤_, _<_};
 ghost use lib.ListN.{length};
 ghost use Rattle.counting.specs.Trays.{moved, pairMoved};
 ghost use Rattle.maps.specs.Selected.{elementsOf};
+ghost use Rattle.parts.specs.Pieces.{bytesOf, elementsBy, Sources};
 ghost use Rattle.trays.specs.Tables.{RoomFor};
-ghost use Rattle.trays.specs.Parts.{bytesOf, elementsBy, cycleOf, Sources, Targets, movedWhere, Chosen·ok, Lengths, Trays·ok, Starts, Laid, Rooms};
-use crate::parts;
-use crate::parts::Chosen;
-use crate::pieces::Cycle;
+ghost use Rattle.trays.specs.Parts.{cycleOf, Targets, movedWhere, Chosen·ok, Lengths, Trays·ok, Starts, Laid, Rooms};
+use crate::filling;
 use crate::shares;
 use crate::tables;
 use families::Layout;
 use maps::Window;
+use parts::Chosen;
+use parts::Cycle;
 
 // Writes down what of the first layout a piece is found by.
 pub fn put_sources(
@@ -111,7 +112,7 @@ pub fn move_by_tables(
         period: size1,
         elements: layout1.elements,
     };
-    parts::fill_parts(
+    filling::fill_parts(
         numbers2,
         layout2,
         size2,

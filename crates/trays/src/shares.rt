@@ -1,40 +1,18 @@
 // Shares: what each element has of a window, four numbers an element in one row that can be lent.
 ghost use mathlib.Core.Path.{_≡_};
 ghost use mathlib.Core.List.{[], _∷_};
-ghost use Prim.Native.Nat.{_+_, _*_, _-_, _≤_, _<_};
+ghost use Prim.Native.Nat.{_-_, _≤_};
 ghost use lib.ListN.{length};
 ghost use Rattle.counting.specs.Count.{countBelow};
 ghost use Rattle.families.specs.Decoded.{rowOf};
 ghost use Rattle.maps.specs.Selected.{belongs, elementsOf, Pattern·ok, Selection·ok};
 ghost use Rattle.runs.specs.Walking.{Window·ok};
-ghost use Rattle.trays.specs.Parts.{bytesOf, shareAt, SharesOf};
+ghost use Rattle.parts.specs.Pieces.{bytesOf, SharesOf};
 use families::Layout;
-use families::SubfileOffset;
 use families::TrayPlace;
 use maps::Selection;
 use maps::Window;
-
-// Where an element's part of a tray starts and how long it is, how many of its bytes lie before the window, and how many a period has.
-pub struct Share {
-    pub start: TrayPlace,
-    pub count: u64,
-    pub before: SubfileOffset,
-    pub size: u64,
-}
-
-// Element e's share.
-pub fn share_at(shares: &[u64], e: usize) -> Share
-    requires { ⌜ 4 * e + 3 < length (now shares) ⌝ }
-    ensures { λ r. ⌜ r ≡ shareAt (now (shares .entry)) e ⌝ }
-{
-    let b = 4 * e;
-    Share {
-        start: TrayPlace(shares[b]),
-        count: shares[b + 1],
-        before: SubfileOffset(shares[b + 2]),
-        size: shares[b + 3],
-    }
-}
+use parts::Share;
 
 // Writes a share into a part of the row that has room for it alone.
 pub fn put_share(share: Share, four: &mut [u64])

@@ -4,7 +4,8 @@ ghost use mathlib.Core.Bool.{true};
 ghost use lib.ListN.{replicate};
 ghost use Rattle.families.specs.Decoded.{rowOf};
 ghost use Rattle.maps.specs.Selected.{Pattern·ok};
-ghost use Rattle.trays.specs.Tables.{NextsOf, FitsAll, RoomFor, Tables, Ranked, Counted·ok};
+ghost use Rattle.parts.specs.Tabled.{Ranked};
+ghost use Rattle.trays.specs.Tables.{NextsOf, FitsAll, RoomFor, Tables, Counted·ok};
 use families::Layout;
 use families::SubfileOffset;
 

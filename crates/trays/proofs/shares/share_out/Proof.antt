@@ -2,7 +2,7 @@
 use Prim.Native.Nat.{_+_, _-_, _*_}
 use native.Mathlib.Omega.{arith}
 use Rattle.maps.specs.Selected.{elementsOf}
-use Rattle.trays.specs.Parts.{bytesOf}
+use Rattle.parts.specs.Pieces.{bytesOf}
 use Rattle.trays.proofs.Layouts.{elements-length}
 use Rattle.trays.proofs.Choosing.{chosen-ok}
 use Rattle.trays.proofs.Allotting.{Allotted, allotted-none, allotted-all, allotting-held, allotting-part, allotting-fits, allotting-next}

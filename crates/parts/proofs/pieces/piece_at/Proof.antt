@@ -5,10 +5,10 @@ use Prim.Native.Nat.{_+_, min}
 use native.Mathlib.Omega.{arith}
 use lib.ListN.{getD}
 use borrow.Author.Needs.{needs}
-use Rattle.trays.specs.Parts.{placeIn}
-use Rattle.trays.proofs.Piecing.{place-held}
-use Rattle.trays.proofs.pieces.piece_at.Statement.{statement}
-use Rattle.trays.proofs.pieces.piece_at.Tie as tie
+use Rattle.parts.specs.Pieces.{placeIn}
+use Rattle.parts.proofs.Piecing.{place-held}
+use Rattle.parts.proofs.pieces.piece_at.Statement.{statement}
+use Rattle.parts.proofs.pieces.piece_at.Tie as tie
 
 add-past : tie.Need-add-past
 add-past c = search needs

@@ -6,13 +6,13 @@ use native.Mathlib.Omega.{arith}
 use borrow.Author.Tests.{eqb-true, eqb-false}
 use Rattle.counting.specs.Trays.{inTray}
 use Rattle.maps.specs.Selected.{belongs}
-use Rattle.trays.specs.Parts.{bytesOf, elementsBy, takes}
+use Rattle.parts.specs.Pieces.{bytesOf, elementsBy, takes}
 use Rattle.moves.proofs.Striding.{begin-asks, run-asks, further-asks}
-use Rattle.trays.proofs.Piecing.{piece-asks, step-just}
-use Rattle.trays.proofs.Renewing.{Renewing, renewing-start, renewing-end, AtPiece, source-asked, copy-asked, beyond-asked, far-least, far-over}
-use Rattle.trays.proofs.Renewing.{piece-forward, piece-copied, piece-passed}
-use Rattle.trays.proofs.parts.fill_part.Statement.{statement}
-use Rattle.trays.proofs.parts.fill_part.Tie as tie
+use Rattle.parts.proofs.Piecing.{piece-asks, step-just}
+use Rattle.parts.proofs.Renewing.{Renewing, renewing-start, renewing-end, AtPiece, source-asked, copy-asked, beyond-asked, far-least, far-over}
+use Rattle.parts.proofs.Renewing.{piece-forward, piece-copied, piece-passed}
+use Rattle.parts.proofs.filling.fill_part.Statement.{statement}
+use Rattle.parts.proofs.filling.fill_part.Tie as tie
 
 abbrev Inv-loop : tie.InvT-loop
 Inv-loop numbers s window runs hops cycle owners keeps skips ranks shares only tray part₀ n walk₀ part walk =

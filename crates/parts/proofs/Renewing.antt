@@ -15,17 +15,17 @@ use Rattle.counting.proofs.Cases.{lt-or-le}
 use Rattle.counting.proofs.Gathers.{tabulated-ext, tabulated-part}
 use Rattle.counting.proofs.TrayParts.{run-within, tray-run}
 use Rattle.maps.specs.declared.Selection.{Selection}
-use Rattle.trays.specs.declared.pieces.Cycle.{Cycle}
-use Rattle.trays.specs.declared.pieces.Piece.{Piece}
+use Rattle.parts.specs.declared.pieces.Cycle.{Cycle}
+use Rattle.parts.specs.declared.pieces.Piece.{Piece}
 use Rattle.moves.specs.declared.walks.Walk.{Walk}
 use Rattle.moves.specs.Strides.{Strides, furthers}
 use Rattle.moves.specs.Walks.{Stands, Begun}
-use Rattle.trays.specs.Parts.{elementsBy, Sources, pieceAt, sourceOf, Source·ok, takes, renewed}
+use Rattle.parts.specs.Pieces.{elementsBy, Sources, pieceAt, sourceOf, Source·ok, takes, renewed}
 use Rattle.moves.proofs.Passing.{Passes, pass-front, pass-others}
 use Rattle.moves.proofs.Striding.{step-there, step-left, stepped, stepped-twice, packed-place, step-passes, further-passes}
 use Rattle.moves.proofs.Packing.{Packing, packing-start, packing-end, packing-room, packing-on, packing-copied}
-use Rattle.trays.proofs.Piecing.{PieceOf, StepOver, sources-once, piece-is, piece-taken, piece-left}
-use Rattle.trays.proofs.Piecing.{source-asks, source-is, beyond-asks, beyond-least, step-beyond}
+use Rattle.parts.proofs.Piecing.{PieceOf, StepOver, sources-once, piece-is, piece-taken, piece-left}
+use Rattle.parts.proofs.Piecing.{source-asks, source-is, beyond-asks, beyond-least, step-beyond}
 
 -- the byte of x in the renewed part
 abbrev pub newByte : (q : ℕ → Bool) → (a : ℕ) → (taken : ℕ → Bool) → (f : ℕ → ℕ) → (old : List ℕ) → ℕ → ℕ

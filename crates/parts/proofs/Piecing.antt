@@ -19,14 +19,14 @@ use Rattle.counting.proofs.Periods.{rank-owns, period-count}
 use Rattle.counting.proofs.Elements.{first-only}
 use Rattle.counting.proofs.Trays.{place-within}
 use Rattle.counting.proofs.TrayParts.{place-of}
-use Rattle.trays.specs.declared.pieces.Cycle.{Cycle}
-use Rattle.trays.specs.declared.pieces.Piece.{Piece}
-use Rattle.trays.specs.declared.shares.Share.{Share}
+use Rattle.parts.specs.declared.pieces.Cycle.{Cycle}
+use Rattle.parts.specs.declared.pieces.Piece.{Piece}
+use Rattle.parts.specs.declared.shares.Share.{Share}
 use Rattle.moves.specs.Strides.{Ahead}
 use Rattle.moves.specs.Owning.{heldBy}
-use Rattle.trays.specs.Parts.{shareAt, ShareOf, elementsBy, Sources, placeIn, pieceAt, rankOf, sourceOf, Piece·ok, Source·ok, takes}
+use Rattle.parts.specs.Pieces.{shareAt, ShareOf, elementsBy, Sources, placeIn, pieceAt, rankOf, sourceOf, Piece·ok, Source·ok, takes}
 use Rattle.moves.proofs.Looking.{ahead-shifted, from-place}
-use Rattle.trays.proofs.Cycling.{length-tabled, element-tabled, tabled-once}
+use Rattle.parts.proofs.Cycling.{length-tabled, element-tabled, tabled-once}
 
 -- a piece of at most `run` numbers from x on: one element has it all
 pub record PieceOf (L : Elements) (x run : ℕ) (piece : Piece) : Type 0 where

@@ -2,7 +2,7 @@
 ghost use mathlib.Core.Path.{_≡_};
 ghost use Prim.Native.Nat.{_+_, _≤_, _<_};
 ghost use lib.ListN.{length, getD};
-ghost use Rattle.trays.specs.Parts.{Piece·ok, pieceAt, Source·ok, sourceOf};
+ghost use Rattle.parts.specs.Pieces.{Piece·ok, pieceAt, Source·ok, sourceOf};
 use crate::shares;
 use families::TrayPlace;
 use maps::Window;

@@ -2,11 +2,11 @@
 use Prim.Native.Nat.{_-_}
 use native.Mathlib.Omega.{arith}
 use Rattle.maps.specs.Selected.{elementsOf}
-use Rattle.trays.specs.Parts.{bytesOf, elementsBy}
+use Rattle.parts.specs.Pieces.{bytesOf, elementsBy}
 use Rattle.trays.proofs.Parting.{Parted, parted-none, parted-long, parted-all, targets-once}
 use Rattle.trays.proofs.Parting.{parting-element, parting-held, parting-fits, parting-asks, parting-next}
-use Rattle.trays.proofs.parts.fill_parts.Statement.{statement}
-use Rattle.trays.proofs.parts.fill_parts.Tie as tie
+use Rattle.trays.proofs.filling.fill_parts.Statement.{statement}
+use Rattle.trays.proofs.filling.fill_parts.Tie as tie
 
 abbrev Inv-loop : tie.InvT-loop
 Inv-loop numbers layout size window runs hops parts cycle owners keeps skips ranks shares tray1 tray2₀ last only j₀ tray2 j =

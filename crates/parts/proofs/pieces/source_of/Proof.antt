@@ -2,9 +2,9 @@
 use mathlib.Core.Path.{refl}
 use native.Mathlib.Omega.{arith}
 use borrow.Author.Needs.{needs}
-use Rattle.trays.proofs.Piecing.{source-fits}
-use Rattle.trays.proofs.pieces.source_of.Statement.{statement}
-use Rattle.trays.proofs.pieces.source_of.Tie as tie
+use Rattle.parts.proofs.Piecing.{source-fits}
+use Rattle.parts.proofs.pieces.source_of.Statement.{statement}
+use Rattle.parts.proofs.pieces.source_of.Tie as tie
 
 sub-share-at : tie.Need-sub-share-at
 sub-share-at c = search needs

@@ -17,7 +17,7 @@ use Rattle.counting.proofs.Gathers.{length-tabulated}
 use Rattle.counting.proofs.Elements.{element-tabulated}
 use Rattle.counting.proofs.Periods.{owns-at}
 use Rattle.moves.specs.Owning.{heldBy}
-use Rattle.trays.specs.Tables.{tabled, Owned}
+use Rattle.parts.specs.Tabled.{tabled, Owned}
 
 -- ---- tests f a, f (a + 1), .. of which none has x, or one alone
 times-none : (a n : ℕ) (f : ℕ → ℕ → Bool) (x : ℕ) → ((e : ℕ) → a ≤ e → e < a + n → f e x ≡ false) → times (tabulated a n f) x ≡ 0

@@ -1,8 +1,8 @@
 -- `beyond` meets its contract. Assumes nothing.
 use native.Mathlib.Omega.{arith}
 use borrow.Author.Needs.{needs}
-use Rattle.trays.proofs.pieces.beyond.Statement.{statement}
-use Rattle.trays.proofs.pieces.beyond.Tie as tie
+use Rattle.parts.proofs.pieces.beyond.Statement.{statement}
+use Rattle.parts.proofs.pieces.beyond.Tie as tie
 
 mul-wide : tie.Need-mul-wide
 mul-wide c = search needs

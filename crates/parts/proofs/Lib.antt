@@ -1,0 +1,3 @@
+pub mod Cycling
+pub mod Piecing
+pub mod Renewing
