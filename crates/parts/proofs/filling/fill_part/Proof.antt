@@ -71,7 +71,9 @@ source-of-requires : tie.Need-source-of-requires Inv-loop μ-loop
 source-of-requires c κs = source-asked (here (c .before))
 
 copy-run-requires : tie.Need-copy-run-requires Inv-loop μ-loop
-copy-run-requires c κs = copy-asked (here (c .before .before .before)) _ (c .before .source-of .ensures)
+copy-run-requires c κs =
+    let fits = copy-asked (here (c .before .before .before)) _ (c .before .source-of .ensures) in
+    (omega (arith, fits .0), omega (arith, fits .1))
 
 beyond-requires : tie.Need-beyond-requires Inv-loop μ-loop
 beyond-requires c κs = beyond-asked (here (c .before .before .before .before .before .before .before))
