@@ -10,7 +10,7 @@ pub fn list_sheet(sheet: &[u8], text: &mut [u8]) -> Written
     let mut whole = [0u8; crate::LONGEST_LISTING];
     let n = lines::put_listing(sheet, &mut whole);
     if text.len() < n {
-        return Written::Refused(openings::refusal(crate::BUFFER, 0));
+        return Written::Refused(openings::call_refusal(crate::BUFFER, 0));
     }
     copies::copy_run(&whole, 0, text, 0, n);
     Written::Bytes(n as u64)

@@ -6,7 +6,7 @@ use Rattle.astrephon.proofs.listing.list_sheet.Statement.{statement}
 use Rattle.astrephon.proofs.listing.list_sheet.Tie as tie
 use Rattle.astrephon.proofs.listing.list_sheet.Reads as reads
 use Rattle.astrephon.proofs.listing.list_sheet.Lts as lts
-use Rattle.openings.proofs.refusal.Reads as refusal-reads
+use Rattle.openings.proofs.call_refusal.Reads as refusal-reads
 use Rattle.copies.proofs.copy_run.Reads as copy-run-reads
 use Rattle.lines.proofs.put_listing.Reads as put-listing-reads
 
@@ -16,11 +16,11 @@ slice-aggregate-put-listing c = search needs
 put-listing-requires : tie.Need-put-listing-requires
 put-listing-requires c κs = search needs
 
-refusal-requires : tie.Need-refusal-requires
-refusal-requires c κs = search needs
+call-refusal-requires : tie.Need-call-refusal-requires
+call-refusal-requires c κs = search needs
 
 returns : tie.Need-returns
-returns c = written-refused (c .before .before .before .put-listing .ensures) (omega arith) _ _ (c .refusal .ensures) (omega arith)
+returns c = written-refused (c .before .before .before .put-listing .ensures) (omega arith) _ _ (c .call-refusal .ensures) (omega arith)
 
 slice-aggregate-copy-run : tie.Need-slice-aggregate-copy-run
 slice-aggregate-copy-run c = search needs
@@ -40,7 +40,7 @@ list-sheet-spec =
     (tie.spec
     slice-aggregate-put-listing
     put-listing-requires
-    refusal-requires
+    call-refusal-requires
     returns
     slice-aggregate-copy-run
     copy-run-requires
