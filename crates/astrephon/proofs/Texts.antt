@@ -1,15 +1,15 @@
 -- `list_sheet` case by case, and that a long buffer is enough. Assumes nothing.
 use mathlib.Core.Path.{_≡_, refl, sym, ap, _∙_}
-use mathlib.Core.List.{List, [], _∷_, _++_}
-use Prim.Native.Nat.{ℕ, _+_, _≤_, _<_, min}
+use mathlib.Core.List.{List, _++_}
+use Prim.Native.Nat.{ℕ, _≤_, _<_}
 use native.Mathlib.Nat.{zero-add}
 use native.Mathlib.Omega.{arith}
-use borrow.Author.Tests.{lt-ltb, le-ltb, ltb-false}
+use borrow.Author.Tests.{lt-ltb, le-ltb}
 use lib.Dec.{ltb}
-use lib.ListN.{length, take, drop}
+use lib.ListN.{length, take, drop, length-append}
 use lib.Seq.{paste, length-take-le}
 use Rattle.counting.proofs.Cases.{byTest}
-use Rattle.sheets.specs.Refusals.{_when_, firstFault}
+use Rattle.sheets.specs.Refusals.{firstFault}
 use Rattle.words.specs.Texts.{Put}
 use Rattle.openings.specs.declared.Refusal.{Refusal}
 use Rattle.astrephon.specs.declared.Written.{Written}
@@ -41,14 +41,16 @@ module _ {text before whole : List ℕ} {most n : ℕ} (P : Put text most 0 n be
     unfolding writtenOf
     written-done fits is =
         let passed = fault-passed (stays Refused held) (record { answer = Bytes (length text); later = text ++ drop (length text) held }) _ 0
-            (row-absent BUFFER _ (le-ltb (length held) (length text) (omega (arith, text-long)))) refl in
+        (row-absent BUFFER _ (le-ltb (length held) (length text) (omega (arith, text-long)))) refl in
         let q = parts (writtenOf text held) passed in
         let front : paste held 0 whole n ≡ text ++ drop (length text) held = rw (zero-add, text-is, text-long) refl in
         (ap Bytes (sym text-long) ∙ q .0, is ∙ front ∙ q .1)
 
--- ---- what was written fits
-pub written-fits : (text held : List ℕ) (n : ℕ) → Bytes n ≡ writtenOf text held .answer → n ≤ length held
+-- ---- what was written is no longer than what it was written to
+pub written-fits : (text held : List ℕ) {later : List ℕ} {n : ℕ} → Bytes n ≡ writtenOf text held .answer → later ≡ writtenOf text held .later → n ≤ length later
 unfolding writtenOf unlessFault firstFault
-written-fits text held n is = byTest (ltb (length held) (length text))
+written-fits text held {later} {n} is left = byTest (ltb (length held) (length text))
     (λ short. let refused : Bytes n ≡ Refused (callRefusal BUFFER 0) = rw short at is in let no : _≡_ {A = ℕ} 0 1 = cc in absurd (omega arith))
-    (λ fits. let bytes : Bytes n ≡ Bytes (length text) = rw fits at is in let e : n ≡ length text = cc in omega (arith, ltb-false (length held) (length text) fits))
+    (λ fits. let bytes : Bytes n ≡ Bytes (length text) = rw fits at is in
+    let e : n ≡ length text = cc in
+    omega (arith, e, ap length (rw fits at left), length-append text (drop (length text) held)))

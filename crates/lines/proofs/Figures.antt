@@ -1,6 +1,6 @@
 -- FIGURES of 01: the listing of layout F, of the empty sheet, and of the two bad patterns, as theorems about the definition. Assumes nothing.
 use mathlib.Core.Path.{_≡_, refl}
-use mathlib.Core.List.{List, [], _∷_}
+use mathlib.Core.List.{[], _∷_}
 use Prim.Native.Nat.{ℕ}
 use Rattle.counting.specs.Count.{countBelow, stretch, nth}
 use Rattle.families.specs.Forest.{Forest, nil, node, anyBelow, inSegments, has, endOf, sizeOf}

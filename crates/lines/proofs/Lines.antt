@@ -1,6 +1,5 @@
 -- The pieces of each line, put one behind the other, are the line; and the lines are the listing. Assumes nothing.
-use mathlib.Core.Path.{_≡_, refl, sym, ap, _∙_}
-use mathlib.Core.Bool.{true, false}
+use mathlib.Core.Path.{_≡_, ap}
 use mathlib.Core.List.{List, _++_}
 use Prim.Native.Nat.{ℕ, suc, _+_, _*_, _≤_, _<_}
 use native.Mathlib.Numerals.{add-one}
@@ -10,7 +9,7 @@ use lib.Dec.{eqb}
 use Rattle.families.specs.declared.Element.{Element}
 use Rattle.families.specs.declared.Layout.{Layout}
 use Rattle.families.specs.Forest.{sizeOf}
-use Rattle.families.specs.Decoded.{elementOf, treeOf, rowOf}
+use Rattle.families.specs.Decoded.{elementOf, rowOf}
 use Rattle.families.proofs.Rows.{row-element}
 use Rattle.families.proofs.Flats.{element-some, element-sound}
 use Rattle.sheets.specs.declared.Reading.{Reading}

@@ -1,12 +1,11 @@
 -- Pieces put into a text one behind the other. Assumes nothing.
 use mathlib.Core.Path.{_≡_, refl, sym, ap, _∙_}
-use mathlib.Core.Bool.{cond}
 use mathlib.Core.List.{List, [], _∷_, _++_, append-nil, append-assoc}
 use Prim.Native.Nat.{ℕ, zero, suc, _+_, _-_, _/_, _%_, _≤_, _<_}
 use native.Mathlib.Numerals.{add-one}
 use native.Mathlib.Omega.{arith}
 use borrow.Author.Tests.{lt-ltb, le-ltb}
-use lib.ListN.{length, take, drop, set, length-set}
+use lib.ListN.{length, take, set, length-set}
 use lib.Seq.{paste, length-paste, take-paste, take-length, take-suc-set}
 use Rattle.words.specs.Texts.{decimalIn, Put}
 

@@ -1,15 +1,10 @@
 -- `main` is safe and ends: what the call says it wrote fits the buffer. Assumes nothing.
-use Rattle.astrephon.proofs.Texts.{written-fits}
-use native.Mathlib.Omega.{arith}
 use mathlib.Core.Path.{sym, _∙_}
+use lib.Seq.{length-take-le}
 use borrow.Author.Needs.{needs}
+use Rattle.astrephon.proofs.Texts.{written-fits}
 use Rattle.listing.proofs.main.Statement.{statement}
 use Rattle.listing.proofs.main.Tie as tie
-use Rattle.listing.proofs.main.Reads as reads
-use Rattle.listing.proofs.main.Lts as lts
-use Rattle.astrephon.proofs.list_sheet.Reads as list-sheet-reads
-use Rattle.io.proofs.read_full.Reads as read-full-reads
-use Rattle.io.proofs.write_all.Reads as write-all-reads
 
 slice-aggregate-read-full : tie.Need-slice-aggregate-read-full
 slice-aggregate-read-full c = search needs
@@ -33,10 +28,10 @@ enum-known-written : tie.Need-enum-known-written
 enum-known-written c = search needs
 
 array-share-prefix-text : tie.Need-array-share-prefix-text
-array-share-prefix-text c = written-fits _ _ _ (sym (c .before .written .given .1) ∙ c .before .before .before .before .list-sheet .ensures .0)
+array-share-prefix-text c = let said = c .before .before .before .before .list-sheet .ensures in written-fits _ _ (sym (c .before .written .given .1) ∙ said .0) (said .1)
 
 slice-aggregate-write-all : tie.Need-slice-aggregate-write-all
-slice-aggregate-write-all c = omega arith
+slice-aggregate-write-all c = let said = c .before .before .before .before .before .list-sheet .ensures in sym (length-take-le _ _ (written-fits _ _ (sym (c .before .before .written .given .1) ∙ said .0) (said .1)))
 
 write-all-requires : tie.Need-write-all-requires
 write-all-requires c κs = search needs

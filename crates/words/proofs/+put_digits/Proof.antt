@@ -1,10 +1,10 @@
-use Rattle.words.proofs.Puts.{put-nothing, put-digit, put-last}
-use borrow.Author.Needs.{needs}
-use native.Mathlib.Omega.{arith}
-use mathlib.Core.Path.{_≡_, refl}
+-- `put_digits` meets its contract. The measure: how many digits it may have. Assumes nothing.
 use Prim.Native.Nat.{ℕ, _<_}
+use native.Mathlib.Omega.{arith}
+use borrow.Author.Needs.{needs}
 use borrow.Fn.Kinds.{In}
 use borrow.Fn.PlainCycle.{Measures, is, falls, and}
+use Rattle.words.proofs.Puts.{put-nothing, put-digit, put-last}
 use Rattle.words.proofs.put_digits.Reads as put-digits
 use Rattle.words.proofs.put_digits.Kinds as put-digits-kinds
 use Rattle.words.proofs.+put_digits.Lts-put_digits as put-digits-lts

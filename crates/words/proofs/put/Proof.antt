@@ -1,11 +1,9 @@
+-- `put` meets its contract. Assumes nothing.
 use native.Mathlib.Omega.{arith}
-use Rattle.words.proofs.Puts.{put-word}
 use borrow.Author.Needs.{needs}
+use Rattle.words.proofs.Puts.{put-word}
 use Rattle.words.proofs.put.Statement.{statement}
 use Rattle.words.proofs.put.Tie as tie
-use Rattle.words.proofs.put.Reads as reads
-use Rattle.words.proofs.put.Lts as lts
-use Rattle.copies.proofs.copy_run.Reads as copy-run-reads
 
 copy-run-requires : tie.Need-copy-run-requires
 copy-run-requires c κs = search needs

@@ -1,11 +1,8 @@
-use Rattle.words.proofs.Puts.{_then_}
+-- `put_both` meets its contract. Assumes nothing.
 use borrow.Author.Needs.{needs}
+use Rattle.words.proofs.Puts.{_then_}
 use Rattle.words.proofs.put_both.Statement.{statement}
 use Rattle.words.proofs.put_both.Tie as tie
-use Rattle.words.proofs.put_both.Reads as reads
-use Rattle.words.proofs.put_both.Lts as lts
-use Rattle.words.proofs.put.Reads as put-reads
-use Rattle.words.proofs.put_number.Reads as put-number-reads
 
 put-requires : tie.Need-put-requires
 put-requires c κs = search needs

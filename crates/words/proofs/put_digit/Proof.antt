@@ -1,10 +1,9 @@
+-- `put_digit` meets its contract. Assumes nothing.
 use native.Mathlib.Omega.{arith}
-use Rattle.words.proofs.Puts.{put-byte}
 use borrow.Author.Needs.{needs}
+use Rattle.words.proofs.Puts.{put-byte}
 use Rattle.words.proofs.put_digit.Statement.{statement}
 use Rattle.words.proofs.put_digit.Tie as tie
-use Rattle.words.proofs.put_digit.Reads as reads
-use Rattle.words.proofs.put_digit.Lts as lts
 
 cast-text : tie.Need-cast-text
 cast-text c = search needs

@@ -1,18 +1,13 @@
 -- `list_sheet` meets its contract. Assumes nothing.
+use mathlib.Core.List.{List}
+use mathlib.Core.Path.{ap}
+use Prim.Native.Nat.{ℕ}
+use borrow.Author.Needs.{needs}
 use Rattle.answers.proofs.Replies.{told-left}
 use Rattle.answers.specs.Replies.{ofWritten}
 use Rattle.astrephon.specs.Texts.{writtenCall}
-use Prim.Native.Nat.{ℕ}
-use mathlib.Core.List.{List}
-use mathlib.Core.Path.{ap}
-use borrow.Author.Needs.{needs}
 use Rattle.answers.proofs.calls.list_sheet.Statement.{statement}
 use Rattle.answers.proofs.calls.list_sheet.Tie as tie
-use Rattle.answers.proofs.calls.list_sheet.Reads as reads
-use Rattle.answers.proofs.calls.list_sheet.Lts as lts
-use Rattle.answers.proofs.frames.sheet1.Reads as sheet1-reads
-use Rattle.answers.proofs.told.of_written.Reads as of-written-reads
-use Rattle.astrephon.proofs.list_sheet.Reads as list-sheet-reads
 
 sheet1-requires : tie.Need-sheet1-requires
 sheet1-requires c κs = search needs

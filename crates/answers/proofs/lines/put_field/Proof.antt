@@ -1,12 +1,9 @@
 -- `put_field` meets its contract. Assumes nothing.
-use Rattle.answers.proofs.Fields.{put-field}
 use native.Mathlib.Omega.{arith}
 use borrow.Author.Needs.{needs}
+use Rattle.answers.proofs.Fields.{put-field}
 use Rattle.answers.proofs.lines.put_field.Statement.{statement}
 use Rattle.answers.proofs.lines.put_field.Tie as tie
-use Rattle.answers.proofs.lines.put_field.Reads as reads
-use Rattle.answers.proofs.lines.put_field.Lts as lts
-use Rattle.words.proofs.put_number.Reads as put-number-reads
 
 put-number-requires : tie.Need-put-number-requires
 put-number-requires c κs = search needs

@@ -1,14 +1,9 @@
 -- `list_sheet` meets its contract. Assumes nothing.
-use Rattle.astrephon.proofs.Texts.{written-refused, written-done}
 use native.Mathlib.Omega.{arith}
 use borrow.Author.Needs.{needs}
+use Rattle.astrephon.proofs.Texts.{written-refused, written-done}
 use Rattle.astrephon.proofs.listing.list_sheet.Statement.{statement}
 use Rattle.astrephon.proofs.listing.list_sheet.Tie as tie
-use Rattle.astrephon.proofs.listing.list_sheet.Reads as reads
-use Rattle.astrephon.proofs.listing.list_sheet.Lts as lts
-use Rattle.openings.proofs.call_refusal.Reads as refusal-reads
-use Rattle.copies.proofs.copy_run.Reads as copy-run-reads
-use Rattle.lines.proofs.put_listing.Reads as put-listing-reads
 
 slice-aggregate-put-listing : tie.Need-slice-aggregate-put-listing
 slice-aggregate-put-listing c = search needs

@@ -1,14 +1,9 @@
 -- `put_element` meets its contract. Assumes nothing.
+use borrow.Author.Needs.{needs}
 use Rattle.lines.proofs.Lines.{put-element}
 use Rattle.words.specs.Texts.{word}
-use borrow.Author.Needs.{needs}
 use Rattle.lines.proofs.line.put_element.Statement.{statement}
 use Rattle.lines.proofs.line.put_element.Tie as tie
-use Rattle.lines.proofs.line.put_element.Reads as reads
-use Rattle.lines.proofs.line.put_element.Lts as lts
-use Rattle.words.proofs.put.Reads as put-reads
-use Rattle.words.proofs.put_both.Reads as put-both-reads
-use Rattle.words.proofs.put_number.Reads as put-number-reads
 
 put-number-requires : tie.Need-put-number-requires
 put-number-requires c κs = search needs

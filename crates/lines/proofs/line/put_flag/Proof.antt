@@ -1,13 +1,10 @@
 -- `put_flag` meets its contract. Assumes nothing.
-use Rattle.lines.proofs.Lines.{put-hole, put-overlap, put-no-flag}
-use Rattle.words.specs.Texts.{word}
 use native.Mathlib.Omega.{arith}
 use borrow.Author.Needs.{needs}
+use Rattle.lines.proofs.Lines.{put-hole, put-overlap, put-no-flag}
+use Rattle.words.specs.Texts.{word}
 use Rattle.lines.proofs.line.put_flag.Statement.{statement}
 use Rattle.lines.proofs.line.put_flag.Tie as tie
-use Rattle.lines.proofs.line.put_flag.Reads as reads
-use Rattle.lines.proofs.line.put_flag.Lts as lts
-use Rattle.words.proofs.put.Reads as put-reads
 
 slice-aggregate-put : tie.Need-slice-aggregate-put
 slice-aggregate-put c = search needs

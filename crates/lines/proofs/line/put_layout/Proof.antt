@@ -1,13 +1,9 @@
 -- `put_layout` meets its contract. Assumes nothing.
+use borrow.Author.Needs.{needs}
 use Rattle.lines.proofs.Lines.{put-layout}
 use Rattle.words.specs.Texts.{word}
-use borrow.Author.Needs.{needs}
 use Rattle.lines.proofs.line.put_layout.Statement.{statement}
 use Rattle.lines.proofs.line.put_layout.Tie as tie
-use Rattle.lines.proofs.line.put_layout.Reads as reads
-use Rattle.lines.proofs.line.put_layout.Lts as lts
-use Rattle.words.proofs.put.Reads as put-reads
-use Rattle.words.proofs.put_both.Reads as put-both-reads
 
 slice-aggregate-put-both : tie.Need-slice-aggregate-put-both
 slice-aggregate-put-both c = search needs

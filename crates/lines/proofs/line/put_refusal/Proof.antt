@@ -1,14 +1,9 @@
 -- `put_refusal` meets its contract. Assumes nothing.
+use borrow.Author.Needs.{needs}
 use Rattle.lines.proofs.Lines.{put-refusal}
 use Rattle.words.specs.Texts.{word}
-use borrow.Author.Needs.{needs}
 use Rattle.lines.proofs.line.put_refusal.Statement.{statement}
 use Rattle.lines.proofs.line.put_refusal.Tie as tie
-use Rattle.lines.proofs.line.put_refusal.Reads as reads
-use Rattle.lines.proofs.line.put_refusal.Lts as lts
-use Rattle.lines.proofs.line.put_flag.Reads as put-flag-reads
-use Rattle.words.proofs.put.Reads as put-reads
-use Rattle.words.proofs.put_both.Reads as put-both-reads
 
 slice-aggregate-put-both : tie.Need-slice-aggregate-put-both
 slice-aggregate-put-both c = search needs

@@ -1,12 +1,8 @@
 -- `put_accepted` meets its contract. Assumes nothing.
-use Rattle.lines.proofs.Lines.{put-accepted}
 use borrow.Author.Needs.{needs}
+use Rattle.lines.proofs.Lines.{put-accepted}
 use Rattle.lines.proofs.listing.put_accepted.Statement.{statement}
 use Rattle.lines.proofs.listing.put_accepted.Tie as tie
-use Rattle.lines.proofs.listing.put_accepted.Reads as reads
-use Rattle.lines.proofs.listing.put_accepted.Lts as lts
-use Rattle.lines.proofs.line.put_layout.Reads as put-layout-reads
-use Rattle.lines.proofs.listing.put_trees.Reads as put-trees-reads
 
 put-layout-requires : tie.Need-put-layout-requires
 put-layout-requires c κs = search needs

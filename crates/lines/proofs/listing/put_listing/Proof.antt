@@ -1,15 +1,9 @@
 -- `put_listing` meets its contract. Assumes nothing.
-use Rattle.lines.proofs.Lines.{listed-accepted, listed-refused, all-listable}
 use native.Mathlib.Omega.{arith}
 use borrow.Author.Needs.{needs}
+use Rattle.lines.proofs.Lines.{listed-accepted, listed-refused, all-listable}
 use Rattle.lines.proofs.listing.put_listing.Statement.{statement}
 use Rattle.lines.proofs.listing.put_listing.Tie as tie
-use Rattle.lines.proofs.listing.put_listing.Reads as reads
-use Rattle.lines.proofs.listing.put_listing.Lts as lts
-use Rattle.families.proofs.lay_out.Reads as lay-out-reads
-use Rattle.lines.proofs.line.put_refusal.Reads as put-refusal-reads
-use Rattle.lines.proofs.listing.put_accepted.Reads as put-accepted-reads
-use Rattle.sheets.proofs.read.Reads as read-reads
 
 read-requires : tie.Need-read-requires
 read-requires c κs = search needs

@@ -1,13 +1,8 @@
-use Rattle.lines.proofs.Lines.{put-tree}
 -- `put_tree` meets its contract. Assumes nothing.
 use borrow.Author.Needs.{needs}
+use Rattle.lines.proofs.Lines.{put-tree}
 use Rattle.lines.proofs.listing.put_tree.Statement.{statement}
 use Rattle.lines.proofs.listing.put_tree.Tie as tie
-use Rattle.lines.proofs.listing.put_tree.Reads as reads
-use Rattle.lines.proofs.listing.put_tree.Lts as lts
-use Rattle.families.proofs.inverse.Reads as inverse-reads
-use Rattle.families.proofs.size.Reads as size-reads
-use Rattle.lines.proofs.line.put_element.Reads as put-element-reads
 
 size-requires : tie.Need-size-requires
 size-requires c κs = search needs

@@ -1,12 +1,9 @@
-use Rattle.lines.proofs.Lines.{Lined, lined-none, lined-room, lined-more, lined-all}
-use native.Mathlib.Omega.{arith}
-use Prim.Native.Nat.{_-_}
 -- `put_trees` meets its contract: after e turns, the lines of e elements are put. Assumes nothing.
+use Prim.Native.Nat.{_-_}
+use native.Mathlib.Omega.{arith}
+use Rattle.lines.proofs.Lines.{Lined, lined-none, lined-room, lined-more, lined-all}
 use Rattle.lines.proofs.listing.put_trees.Statement.{statement}
 use Rattle.lines.proofs.listing.put_trees.Tie as tie
-use Rattle.lines.proofs.listing.put_trees.Reads as reads
-use Rattle.lines.proofs.listing.put_trees.Lts as lts
-use Rattle.lines.proofs.listing.put_tree.Reads as put-tree-reads
 
 abbrev Inv-loop : tie.InvT-loop
 Inv-loop numbers text₀ at layout elements end₀ e₀ text end e = Lined layout at text₀ text end e
