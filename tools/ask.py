@@ -11,6 +11,7 @@
     move SHEET1 SHEET2 A B TRAY1 TRAY2             from tray to tray
     pair-move SHEET1 SHEET2 I J A B TRAY1 TRAY2    only what elements I and J share
     shared-runs SHEET1 SHEET2 I J A B LIST         the runs that they share, four numbers of 8 bytes each
+    listing SHEET TEXT                             what the program `listing` prints of it, at the front of the text
 
 Sheets and buffers are files. The last buffer is lent: it must be there, with the length that the call asks for. An accepted call writes
 it, a refused one leaves it. What the call answers is printed; a refusal is printed as an error, `refused NUMBER at PLACE sheet SHEET`.
@@ -38,6 +39,7 @@ CALLS = {
     "move": (8, "sheet1 sheet2 a b source into", []),
     "pair-move": (9, "sheet1 sheet2 i j a b source into", []),
     "shared-runs": (10, "sheet1 sheet2 i j a b into", ["runs"]),
+    "listing": (11, "sheet1 into", ["length"]),
 }
 FLAGS = ["", " hole", " overlap"]
 
