@@ -18,7 +18,8 @@ use Rattle.sheets.specs.Sheet.{readSheet}
 use Rattle.sheets.proofs.Accepted.{Accepted, accepted-law}
 use Rattle.words.specs.Texts.{word, decimal, Put}
 use Rattle.words.proofs.Puts.{put-none, put-within, _then_}
-use Rattle.lines.specs.Listing.{layoutLine, elementLine, firstOf, treeLine, elementLines, flagWord, refusalLine, acceptedLines, listing, familiesOf, Listable, AllListable}
+use Rattle.lines.specs.Listing.{layoutLine, elementLine, firstOf, treeLine, elementLines, flagWord, refusalLine, acceptedLines, listing}
+use Rattle.lines.specs.Listable.{familiesOf, Listable, AllListable}
 
 module _ {at e1 e2 e3 e4 : ℕ} {t0 t1 t2 t3 t4 : List ℕ} where
   pub put-layout : (d size n : ℕ) → Put (word "layout displacement " ++ decimal d) 40 at e1 t0 t1 → Put (word " size " ++ decimal size) 26 e1 e2 t1 t2

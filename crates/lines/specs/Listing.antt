@@ -1,14 +1,12 @@
 -- THE LISTING of a sheet, in 01's words. Each line ends in a line end. Assumes nothing: these are definitions.
-use mathlib.Core.Path.{_≡_}
 use mathlib.Core.Bool.{cond}
 use mathlib.Core.List.{List, [], _++_}
-use Prim.Native.Nat.{ℕ, zero, suc, _≤_, _<_}
+use Prim.Native.Nat.{ℕ, zero, suc}
 use lib.Dec.{eqb}
 use Rattle.counting.specs.Count.{nth}
-use Rattle.families.specs.declared.Element.{Element}
 use Rattle.families.specs.declared.Layout.{Layout}
-use Rattle.families.specs.Forest.{Forest, has, endOf, sizeOf, Sound}
-use Rattle.families.specs.Decoded.{forestAt, familyAt, elementOf, treeOf, rowOf}
+use Rattle.families.specs.Forest.{Forest, has, endOf, sizeOf}
+use Rattle.families.specs.Decoded.{treeOf}
 use Rattle.families.specs.Flat.{total}
 use Rattle.sheets.specs.declared.Reading.{Reading}
 use Rattle.sheets.specs.Refusals.{HOLE, OVERLAP}
@@ -48,19 +46,3 @@ acceptedLines size t = layoutLine (t .displacement) size (t .elements) ++ elemen
 
 unfoldable pub listing : Reading → List ℕ
 listing r = cond (eqb (r .number) 0) (acceptedLines (r .size) (r .layout)) (refusalLine (r .number) (r .place) (r .flag))
-
--- an element's families, whose numbers stand in a row; and what the code asks of them: the sheet rules, some offset, and that the element's span counts
--- the families of all levels
-abbrev pub familiesOf : Element → (row : List ℕ) → Forest
-familiesOf el row = forestAt 4 (familyAt row) (el .first) (el .tops)
-
-pub record Listable (el : Element) (row : List ℕ) : Type 0 where
-  pub sound : Sound (familiesOf el row)
-  pub some : 1 ≤ sizeOf (familiesOf el row)
-  pub spans : el .span ≡ total (familiesOf el row)
-
--- .. of every element of a layout
-pub record AllListable (t : Layout) (row : List ℕ) : Type 0 where
-  pub room : t .elements ≤ 16
-  pub laid : row ≡ rowOf (t .family)
-  pub each : (e : ℕ) → e < t .elements → Listable (elementOf t e) row
