@@ -4,12 +4,11 @@ use mathlib.Core.Bool.{true, false}
 use mathlib.Core.List.{List, [], _∷_, _++_}
 use Prim.Native.Nat.{ℕ, _-_, _≤_, _<_}
 use native.Mathlib.Omega.{arith}
-use lib.Dec.{leb}
 use borrow.Author.Tests.{eq-eqb, ne-eqb, eqb-true, not-false, lt-ltb, le-ltb, le-leb, lt-leb, ltb-false, leb-false}
 use Rattle.sheets.specs.Refusals.{Test, _when_, firstFault}
 use Rattle.sheets.proofs.Faults.{no-fault}
 use Rattle.openings.specs.Refusals.{ELEMENT, BEFORE, FAR, WINDOW, BUFFER}
-use Rattle.openings.specs.Offsets.{LIMIT, offsetTests, rangeTests, windowTests}
+use Rattle.openings.specs.Offsets.{LIMIT, pairTests, offsetTests, rangeTests, windowTests}
 use Rattle.openings.specs.Buffers.{bufferTests}
 
 module _ (from x : ℕ) where
@@ -73,19 +72,19 @@ module _ (file bytes packed count : ℕ) where
 
 -- ---- the indexes of a pair
 module _ (m i n j : ℕ) where
-  pub pair-first : m ≤ i → ELEMENT ≡ firstFault ((ELEMENT when leb m i) ∷ (ELEMENT when leb n j) ∷ [])
+  pub pair-first : m ≤ i → ELEMENT ≡ firstFault (pairTests m i n j)
   unfolding firstFault
   pair-first h = rw (le-leb _ _ h) refl
 
-  pub pair-second : i < m → n ≤ j → ELEMENT ≡ firstFault ((ELEMENT when leb m i) ∷ (ELEMENT when leb n j) ∷ [])
+  pub pair-second : i < m → n ≤ j → ELEMENT ≡ firstFault (pairTests m i n j)
   unfolding firstFault
   pair-second h l = rw (lt-leb _ _ h, le-leb _ _ l) refl
 
-  pub pair-fine : i < m → j < n → 0 ≡ firstFault ((ELEMENT when leb m i) ∷ (ELEMENT when leb n j) ∷ [])
+  pub pair-fine : i < m → j < n → 0 ≡ firstFault (pairTests m i n j)
   unfolding firstFault
   pair-fine h l = rw (lt-leb _ _ h, lt-leb _ _ l) refl
 
-  pub pair-known : (k : ℕ) → k ≡ firstFault ((ELEMENT when leb m i) ∷ (ELEMENT when leb n j) ∷ []) → k ≡ 0 → (i < m) × (j < n)
+  pub pair-known : (k : ℕ) → k ≡ firstFault (pairTests m i n j) → k ≡ 0 → (i < m) × (j < n)
   pair-known k e z =
       let first = no-fault ELEMENT _ _ (omega arith) (sym e ∙ z) in
       let second = no-fault ELEMENT _ _ (omega arith) (first .1) in

@@ -1,7 +1,6 @@
 pub mod Orders
-pub mod Answering
+pub mod Verdicts
 pub mod Faults
 pub mod Opens
-pub mod WindowOpens
+pub mod ElementOpens
 pub mod PairOpens
-pub mod BothSheets

@@ -1,9 +1,11 @@
--- Opening an element: what the code gives in each case, and what a call knows of an element that was opened. Assumes nothing.
+-- Opening an element: what a call knows of an element that was opened, for a window, and for two buffers. Assumes nothing.
 use mathlib.Core.Path.{_≡_, refl, sym, ap, _∙_}
+use mathlib.Core.Bool.{Bool}
 use mathlib.Core.List.{List, [], _∷_}
-use Prim.Native.Nat.{ℕ, _≤_, _<_}
+use Prim.Native.Nat.{ℕ, _-_, _≤_, _<_}
 use native.Mathlib.Omega.{arith}
-use borrow.Author.Tests.{le-leb, lt-leb, leb-false}
+use borrow.Author.Tests.{lt-leb, leb-false}
+use Rattle.counting.specs.Count.{countBelow}
 use Rattle.families.specs.Forest.{WF}
 use Rattle.families.specs.Decoded.{rowOf, Layout·ok}
 use Rattle.sheets.specs.declared.Reading.{Reading}
@@ -13,79 +15,30 @@ use Rattle.sheets.proofs.Accepted.{Accepted, accepted-law}
 use Rattle.maps.specs.declared.Selection.{Selection}
 use Rattle.maps.specs.Selected.{familiesOf, belongs, Selection·ok, selectionOf}
 use Rattle.maps.proofs.Chosen.{families-tree, selection-ok, accepted-pattern, belongs-tree}
-use Rattle.openings.specs.declared.Refusal.{Refusal}
 use Rattle.openings.specs.declared.Opening.{Opening}
-use Rattle.openings.specs.Refusals.{ELEMENT, sheetRefusal, callRefusal, unlessSheet, unlessFault}
-use Rattle.openings.specs.Offsets.{offsetsOf, elementTest}
-use Rattle.openings.specs.Openings.{closedBy, openedOf, openingOf}
-use Rattle.openings.proofs.Answering.{answerTo, sheet-answer, fault-answer, closed-answer, sheet-open, fault-open}
-use Rattle.openings.proofs.Orders.{row-there, row-absent, sheet-refused, sheet-passed, fault-refused, fault-passed}
+use Rattle.openings.specs.Said.{Said, done}
+use Rattle.openings.specs.Refusals.{ELEMENT, unlessFault}
+use Rattle.openings.specs.Offsets.{LIMIT, offsetsOf, elementTest, windowTests, unlessElement, unlessWindow}
+use Rattle.openings.specs.Buffers.{packedLength, bufferTests, unlessBuffers}
+use Rattle.openings.specs.Openings.{Chosen, Opens}
+use Rattle.openings.proofs.Orders.{row-absent, sheet-passed, fault-passed, sheet-through, fault-through}
+use Rattle.openings.proofs.Verdicts.{verdict-none}
+use Rattle.openings.proofs.Faults.{range-known, buffer-known}
 
 -- ---- an accepted sheet: its layout meets the rules
 pub layout-rules : (xs : List ℕ) (r : Reading) → r ≡ readSheet xs → r .number ≡ 0 → Layout·ok 4 65535 (r .layout)
 layout-rules xs r read fine = rw read (accepted-law xs (ap (λ (s : Reading). s .number) (sym read) ∙ fine) .ok)
 
--- an element that is there: every call goes on
-pub element-on : {A : Type 0} (refused : Refusal → A) (next : A) (k : ℕ) (r : Reading) (e : ℕ) → r .number ≡ 0 → e < r .layout .elements
-    → next ≡ unlessSheet refused k r (unlessFault refused (elementTest r e ∷ []) next)
-element-on refused next k r e fine h = fault-passed refused next (elementTest r e ∷ []) 0 (row-absent ELEMENT _ (lt-leb _ _ h)) refl ∙ sheet-passed refused _ k r fine
+-- an element that is there: every call goes on; and a call that did its work had one
+module _ (r : Reading) (e : ℕ) where
+  pub element-on : (next : Said) → r .number ≡ 0 → e < r .layout .elements → next ≡ unlessElement r e next
+  element-on next fine h = fault-passed next (elementTest r e ∷ []) 0 (row-absent ELEMENT _ (lt-leb _ _ h)) refl ∙ sheet-passed _ 1 r fine
 
--- ---- `open_element`: a refused sheet, an index that is none, an element. What is said of the row holds of those that are opened
-module _ (k : ℕ) (xs : List ℕ) (r : Reading) (read : r ≡ readSheet xs) (e : ℕ) where
-  of-sheet : (o : Opening) → o ≡ openingOf k r e → o ≡ openingOf k (readSheet xs) e
-  of-sheet o q = q ∙ ap (λ (s : Reading). openingOf k s e) read
-
-  closed-number : (o : Opening) (f : Refusal) → o ≡ closedBy f → o .refusal .number ≡ f .number
-  closed-number o f q = ap (λ (p : Opening). p .refusal .number) q
-
-  pub sheet-closed : {C : Type 0} (f : Refusal) (o : Opening) → f ≡ sheetRefusal k r → o ≡ closedBy f → (r .number ≡ 0 → ⊥)
-      → (o ≡ openingOf k (readSheet xs) e) × (o .refusal .number ≡ 0 → C)
-  unfolding openingOf
-  sheet-closed f o p q d =
-      let number : o .refusal .number ≡ r .number = closed-number o f q ∙ ap (λ (g : Refusal). g .number) p in
-      (of-sheet o (q ∙ ap closedBy p ∙ sheet-refused closedBy _ k r d), λ z. absurd (d (sym number ∙ z)))
-
-  module _ (fine : r .number ≡ 0) where
-    pub element-closed : {C : Type 0} (f : Refusal) (o : Opening) → f ≡ callRefusal ELEMENT 0 → o ≡ closedBy f → r .layout .elements ≤ e
-        → (o ≡ openingOf k (readSheet xs) e) × (o .refusal .number ≡ 0 → C)
-    unfolding openingOf
-    element-closed f o p q h =
-        let number : o .refusal .number ≡ 12 = closed-number o f q ∙ ap (λ (g : Refusal). g .number) p in (
-          of-sheet o (q
-              ∙ fault-refused closedBy _ (elementTest r e ∷ []) ELEMENT (row-there ELEMENT _ (le-leb _ _ h)) f p (λ z. absurd (omega arith))
-              ∙ sheet-passed closedBy _ k r fine),
-          λ z. absurd (omega arith),
-        )
-
-    pub element-opened : (f : Refusal) (s : Selection) (row : List ℕ) → f ≡ callRefusal 0 0 → s ≡ selectionOf (r .layout) (r .size) e → row ≡ rowOf (r .layout .family) → e < r .layout .elements
-        → (record { refusal = f; selection = s } ≡ openingOf k (readSheet xs) e) × (f .number ≡ 0 → row ≡ rowOf (readSheet xs .layout .family))
-    unfolding openingOf
-    element-opened f s row p q laid h =
-        (of-sheet _ ((λ i. record { refusal = p i; selection = q i }) ∙ element-on closedBy _ k r e fine h), λ _. laid ∙ ap (λ (t : Reading). rowOf (t .layout .family)) read)
-
--- ---- where something is refused, every call refuses it
-module _ (k : ℕ) (r : Reading) (e : ℕ) (o : Opening) (is : o ≡ openingOf k r e) where
-  opening-answer : {A : Type 0} (refused : Refusal → A) (next : A) → answerTo refused next o ≡ unlessSheet refused k r (unlessFault refused (elementTest r e ∷ []) next)
-  unfolding openingOf
-  opening-answer refused next =
-      ap (answerTo refused next) is ∙ sheet-answer refused next _ k r ∙ ap (unlessSheet refused k r) (fault-answer refused next (openedOf r e) (elementTest r e ∷ []))
-
-  pub opening-refused : {A : Type 0} (refused : Refusal → A) (next : A) → (o .refusal .number ≡ 0 → ⊥)
-      → refused (o .refusal) ≡ unlessSheet refused k r (unlessFault refused (elementTest r e ∷ []) next)
-  opening-refused refused next d = closed-answer refused next _ o (opening-answer refused next) d
-
-  pub opening-passed : o .refusal .number ≡ 0 → (r .number ≡ 0) × (e < r .layout .elements)
-  unfolding openingOf
-  opening-passed z =
-      let sheet = sheet-open _ k r (ap (λ (p : Opening). p .refusal .number) (sym is) ∙ z) in
-      let element = fault-open (openedOf r e) (elementTest r e ∷ []) (sheet .1) in
-      (sheet .0, omega (arith, leb-false (r .layout .elements) e (no-fault ELEMENT _ _ (omega arith) (element .0) .0)))
-
-  pub opening-chosen : o .refusal .number ≡ 0 → o .selection ≡ selectionOf (r .layout) (r .size) e
-  unfolding openingOf
-  opening-chosen z =
-      let P = opening-passed z in
-      ap (λ (p : Opening). p .selection) (is ∙ sym (element-on closedBy (openedOf r e) k r e (P .0) (P .1)))
+  pub element-through : {next : Said} {values : List ℕ} → unlessElement r e next ≡ done values → (r .number ≡ 0) × (e < r .layout .elements) × (next ≡ done values)
+  element-through q =
+      let sheet = sheet-through 1 r q in
+      let element = fault-through (elementTest r e ∷ []) (sheet .1) in
+      (sheet .0, omega (arith, leb-false (r .layout .elements) e (no-fault ELEMENT _ _ (omega arith) (element .0) .0)), element .1)
 
 -- ---- WHAT A CALL KNOWS of an element that was opened
 pub record Opened (r : Reading) (e : ℕ) (s : Selection) (row : List ℕ) : Type 0 where
@@ -109,25 +62,63 @@ belongs-offsets : (r : Reading) (e : ℕ) → belongs (selectionOf (r .layout) (
 unfolding offsetsOf
 belongs-offsets r e = belongs-tree (r .layout) e (r .size)
 
-pub selected : (r : Reading) (e : ℕ) → Accepted r → r .number ≡ 0 → e < r .layout .elements → (s : Selection) (row : List ℕ)
-    → s ≡ selectionOf (r .layout) (r .size) e → row ≡ rowOf (r .layout .family) → Opened r e s row
-selected r e A z h s row p q = record {
-  fine = z;
-  there = h;
-  ok = rw (p, q) (selection-ok (r .layout) (r .size) (accepted-pattern r A) e h);
-  ruled = rw (p, q) (rw (families-tree (r .layout) e (r .size)) (A .ok .ruled e h));
-  short = rw p (period-short r e (A .most));
-  from = ap (λ (t : Selection). t .from) p ∙ from-displacement r e;
-  is = rw (p, q) (belongs-offsets r e);
-}
-
-pub opened-is : (k : ℕ) (xs : List ℕ) (e : ℕ) (o : Opening) (row : List ℕ) → o ≡ openingOf k (readSheet xs) e
-    → (o .refusal .number ≡ 0 → row ≡ rowOf (readSheet xs .layout .family)) → o .refusal .number ≡ 0 → Opened (readSheet xs) e (o .selection) row
-opened-is k xs e o row q laid z =
+pub chosen-known : (xs : List ℕ) (e : ℕ) {s : Selection} {row : List ℕ} → let r = readSheet xs in Chosen r e s row → r .number ≡ 0 → e < r .layout .elements → Opened r e s row
+chosen-known xs e C z h =
     let r = readSheet xs in
-    let P = opening-passed k r e o q z in
-    selected r e (accepted-law xs (P .0)) (P .0) (P .1) (o .selection) row (opening-chosen k r e o q z) (laid z)
+    let A = accepted-law xs z in
+    record {
+      fine = z;
+      there = h;
+      ok = rw (C .selection, C .laid) (selection-ok (r .layout) (r .size) (accepted-pattern r A) e h);
+      ruled = rw (C .selection, C .laid) (rw (families-tree (r .layout) e (r .size)) (A .ok .ruled e h));
+      short = rw (C .selection) (period-short r e (A .most));
+      from = ap (λ (t : Selection). t .from) (C .selection) ∙ from-displacement r e;
+      is = rw (C .selection, C .laid) (belongs-offsets r e);
+    }
 
-pub opened-on : {r : Reading} {e : ℕ} {s : Selection} {row : List ℕ} → Opened r e s row → {A : Type 0} (k : ℕ) (refused : Refusal → A) (next : A)
-    → next ≡ unlessSheet refused k r (unlessFault refused (elementTest r e ∷ []) next)
-opened-on {r} {e} O k refused next = element-on refused next k r e (O .fine) (O .there)
+-- ---- .. after the checks of `open_element`, and perhaps more
+module _ (xs : List ℕ) (e : ℕ) (more : Said → Said) {o : Opening} {row : List ℕ} where
+  after-element : let r = readSheet xs in Opens (λ next. unlessElement r e (more next)) r e o row → o .refusal .number ≡ 0 → Opened r e (o .selection) row × (more (done []) ≡ done [])
+  after-element O z =
+      let P = element-through (readSheet xs) e (sym (verdict-none (O .verdict) z (done []))) in
+      (chosen-known xs e (O .chosen z) (P .0) (P .1), P .2)
+
+pub opened : (xs : List ℕ) (e : ℕ) {o : Opening} {row : List ℕ} → let r = readSheet xs in Opens (unlessElement r e) r e o row → o .refusal .number ≡ 0 → Opened r e (o .selection) row
+opened xs e O z = after-element xs e (λ next. next) O z .0
+
+-- ---- WHAT A CALL KNOWS of a window that was opened
+pub record Windowed (r : Reading) (e a b : ℕ) (s : Selection) (row : List ℕ) : Type 0 where
+  pub opened : Opened r e s row
+  pub forward : a ≤ b
+  pub after : s .from ≤ a
+  pub near : b ≤ LIMIT
+
+module _ (xs : List ℕ) (e a b : ℕ) (more : Said → Said) {o : Opening} {row : List ℕ} where
+  after-window : let r = readSheet xs in Opens (λ next. unlessWindow r e a b (more next)) r e o row → o .refusal .number ≡ 0
+      → Windowed r e a b (o .selection) row × (more (done []) ≡ done [])
+  after-window O z =
+      let r = readSheet xs in
+      let tests = windowTests (r .layout .displacement) a b in
+      let P = after-element xs e (λ next. unlessFault tests (more next)) O z in
+      let W = fault-through tests (P .1) in
+      let K = range-known LIMIT (r .layout .displacement) a b 0 (sym (W .0)) refl in
+      (record { opened = P .0; forward = K .0; after = omega (arith, K .1, P .0 .from); near = K .2 }, W .1)
+
+pub windowed : (xs : List ℕ) (e a b : ℕ) {o : Opening} {row : List ℕ} → let r = readSheet xs in Opens (unlessWindow r e a b) r e o row → o .refusal .number ≡ 0
+    → Windowed r e a b (o .selection) row
+windowed xs e a b O z = after-window xs e a b (λ next. next) O z .0
+
+-- the count of its bytes is the packed length
+pub count-is : {r : Reading} {e a b : ℕ} {s : Selection} {row : List ℕ} → Windowed r e a b s row → (c : ℕ) → c ≡ countBelow (belongs s row) b - countBelow (belongs s row) a
+    → c ≡ packedLength r e a b
+count-is {a} {b} W c counted = counted ∙ ap (λ (p : ℕ → Bool). countBelow p b - countBelow p a) (W .opened .is)
+
+-- ---- .. and of two buffers, each of which has its length
+pub buffered : (xs : List ℕ) (e a b file packed : ℕ) {o : Opening} {row : List ℕ} → let r = readSheet xs in Opens (unlessBuffers r e a b file packed) r e o row → o .refusal .number ≡ 0
+    → Windowed r e a b (o .selection) row × (file ≡ b - a) × (packed ≡ packedLength r e a b)
+buffered xs e a b file packed O z =
+    let count = packedLength (readSheet xs) e a b in
+    let tests = bufferTests file (b - a) packed count in
+    let P = after-window xs e a b (unlessFault tests) O z in
+    let B = buffer-known file (b - a) packed count 0 (sym (fault-through tests (P .1) .0)) refl in
+    (P .0, B .0, B .1)

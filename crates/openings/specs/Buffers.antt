@@ -5,7 +5,7 @@ use Prim.Native.Nat.{ℕ, _-_}
 use lib.Dec.{eqb}
 use Rattle.sheets.specs.declared.Reading.{Reading}
 use Rattle.sheets.specs.Refusals.{Test, _when_}
-use Rattle.openings.specs.declared.Refusal.{Refusal}
+use Rattle.openings.specs.Said.{Said}
 use Rattle.openings.specs.Refusals.{BUFFER, unlessFault}
 use Rattle.openings.specs.Offsets.{rankOf, unlessWindow}
 
@@ -18,5 +18,5 @@ abbrev pub bufferTests : (file bytes packed count : ℕ) → List Test
 bufferTests file bytes packed count = (BUFFER when not (eqb file bytes)) ∷ (BUFFER when not (eqb packed count)) ∷ []
 
 -- an element, a window, a file buffer of `file` bytes and a packed one of `packed`
-abbrev pub unlessBuffers : {A : Type 0} → (refused : Refusal → A) → Reading → (e a b file packed : ℕ) → (next : A) → A
-unlessBuffers refused r e a b file packed next = unlessWindow refused r e a b (unlessFault refused (bufferTests file (b - a) packed (packedLength r e a b)) next)
+abbrev pub unlessBuffers : Reading → (e a b file packed : ℕ) → (next : Said) → Said
+unlessBuffers r e a b file packed next = unlessWindow r e a b (unlessFault (bufferTests file (b - a) packed (packedLength r e a b)) next)

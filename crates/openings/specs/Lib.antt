@@ -1,3 +1,4 @@
+pub mod Said
 pub mod Refusals
 pub mod Offsets
 pub mod Buffers

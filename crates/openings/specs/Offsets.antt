@@ -1,7 +1,7 @@
 -- The file offsets of an element, and what the calls check of offsets. Assumes nothing: these are definitions.
 use mathlib.Core.Bool.{Bool}
 use mathlib.Core.List.{List, [], _∷_}
-use Prim.Native.Nat.{ℕ, _-_, _^_}
+use Prim.Native.Nat.{ℕ, _-_, _^_, max}
 use lib.Dec.{ltb, leb}
 use Rattle.counting.specs.Count.{countBelow, nth}
 use Rattle.counting.specs.Periodic.{owns}
@@ -9,7 +9,7 @@ use Rattle.families.specs.Forest.{has}
 use Rattle.families.specs.Decoded.{treeOf}
 use Rattle.sheets.specs.declared.Reading.{Reading}
 use Rattle.sheets.specs.Refusals.{Test, _when_}
-use Rattle.openings.specs.declared.Refusal.{Refusal}
+use Rattle.openings.specs.Said.{Said}
 use Rattle.openings.specs.Refusals.{ELEMENT, BEFORE, FAR, WINDOW, unlessSheet, unlessSheets, unlessFault}
 
 -- file offsets are below this
@@ -32,12 +32,16 @@ placeOf r e y = nth (offsetsOf r e) LIMIT y
 abbrev pub elementTest : Reading → (e : ℕ) → Test
 elementTest r e = ELEMENT when leb (r .layout .elements) e
 
--- .. in a call on one element, after its sheet; and in one on an element of each of two sheets, after both
-abbrev pub unlessElement : {A : Type 0} → (refused : Refusal → A) → Reading → (e : ℕ) → (next : A) → A
-unlessElement refused r e next = unlessSheet refused 1 r (unlessFault refused (elementTest r e ∷ []) next)
+-- .. and those of a pair, where the sheets have m and n elements
+abbrev pub pairTests : (m i n j : ℕ) → List Test
+pairTests m i n j = (ELEMENT when leb m i) ∷ (ELEMENT when leb n j) ∷ []
 
-abbrev pub unlessElements : {A : Type 0} → (refused : Refusal → A) → (r1 r2 : Reading) → (i j : ℕ) → (next : A) → A
-unlessElements refused r1 r2 i j next = unlessSheets refused r1 r2 (unlessFault refused (elementTest r1 i ∷ elementTest r2 j ∷ []) next)
+-- in a call on one element, after its sheet; and in one on an element of each of two sheets, after both
+abbrev pub unlessElement : Reading → (e : ℕ) → (next : Said) → Said
+unlessElement r e next = unlessSheet 1 r (unlessFault (elementTest r e ∷ []) next)
+
+abbrev pub unlessElements : (r1 r2 : Reading) → (i j : ℕ) → (next : Said) → Said
+unlessElements r1 r2 i j next = unlessSheets r1 r2 (unlessFault (pairTests (r1 .layout .elements) i (r2 .layout .elements) j) next)
 
 -- a file offset, where the displacement is d
 abbrev pub offsetTests : (d x : ℕ) → List Test
@@ -53,6 +57,9 @@ intervalTests d a z = rangeTests (LIMIT - 1) d a z
 abbrev pub windowTests : (d a b : ℕ) → List Test
 windowTests d a b = rangeTests LIMIT d a b
 
--- an element and a window
-abbrev pub unlessWindow : {A : Type 0} → (refused : Refusal → A) → Reading → (e a b : ℕ) → (next : A) → A
-unlessWindow refused r e a b next = unlessElement refused r e (unlessFault refused (windowTests (r .layout .displacement) a b) next)
+-- an element and a window; and an element of each of two sheets and a window, which starts at or after both displacements
+abbrev pub unlessWindow : Reading → (e a b : ℕ) → (next : Said) → Said
+unlessWindow r e a b next = unlessElement r e (unlessFault (windowTests (r .layout .displacement) a b) next)
+
+abbrev pub unlessWindows : (r1 r2 : Reading) → (i j a b : ℕ) → (next : Said) → Said
+unlessWindows r1 r2 i j a b next = unlessElements r1 r2 i j (unlessFault (windowTests (max (r1 .layout .displacement) (r2 .layout .displacement)) a b) next)

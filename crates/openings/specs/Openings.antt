@@ -1,38 +1,41 @@
--- How the calls open an element or two sheets, in the code's own terms: the first refusal, or what is opened. Assumes nothing: these are definitions.
-use mathlib.Core.List.{[], _∷_}
-use mathlib.Core.Bool.{cond}
+-- How the calls open an element, an element of each of two sheets, or two sheets: the first refusal, or what is opened. Assumes nothing: these are definitions.
+use mathlib.Core.Path.{_≡_}
+use mathlib.Core.List.{List}
 use Prim.Native.Nat.{ℕ}
-use lib.Dec.{eqb}
+use Rattle.families.specs.Decoded.{rowOf}
 use Rattle.sheets.specs.declared.Reading.{Reading}
+use Rattle.maps.specs.declared.Selection.{Selection}
 use Rattle.maps.specs.Selected.{selectionOf}
 use Rattle.openings.specs.declared.Refusal.{Refusal}
 use Rattle.openings.specs.declared.Opening.{Opening}
+use Rattle.openings.specs.declared.Pair.{Pair}
 use Rattle.openings.specs.declared.Sheets.{Sheets}
-use Rattle.openings.specs.Refusals.{callRefusal, unlessSheet, unlessSheets, unlessFault}
-use Rattle.openings.specs.Offsets.{elementTest, unlessWindow}
-use Rattle.openings.specs.Buffers.{unlessBuffers}
+use Rattle.openings.specs.Said.{Said, goesOn}
+use Rattle.openings.specs.Refusals.{unlessSheets}
+use Rattle.openings.specs.Offsets.{unlessWindows}
 
-abbrev pub closedBy : Refusal → Opening
-closedBy f = record { refusal = f; selection = record { from = 0; period = 0; levels = 0; first = 0; tops = 0; size = 0 } }
+-- THE VERDICT of a call's checks is f, a refusal or none: whatever the call would say next, it says that or the refusal
+pub record Verdict (checks : Said → Said) (f : Refusal) : Type 0 where
+  pub says : (next : Said) → goesOn f next ≡ checks next
 
--- an element that is there. Number 0 is no refusal
-abbrev pub openedOf : Reading → (e : ℕ) → Opening
-openedOf r e = record { refusal = callRefusal 0 0; selection = selectionOf (r .layout) (r .size) e }
+-- what element e selects, and the numbers of the sheet's families in a row
+pub record Chosen (r : Reading) (e : ℕ) (s : Selection) (row : List ℕ) : Type 0 where
+  pub selection : s ≡ selectionOf (r .layout) (r .size) e
+  pub laid : row ≡ rowOf (r .layout .family)
 
--- .. of the k-th sheet; of one sheet, with a window; and with buffers of these lengths
-unfoldable pub openingOf : (k : ℕ) → Reading → (e : ℕ) → Opening
-openingOf k r e = unlessSheet closedBy k r (unlessFault closedBy (elementTest r e ∷ []) (openedOf r e))
+-- AN ELEMENT is opened after some checks
+pub record Opens (checks : Said → Said) (r : Reading) (e : ℕ) (o : Opening) (row : List ℕ) : Type 0 where
+  pub verdict : Verdict checks (o .refusal)
+  pub chosen : o .refusal .number ≡ 0 → Chosen r e (o .selection) row
 
-unfoldable pub windowOf : Reading → (e a b : ℕ) → Opening
-windowOf r e a b = unlessWindow closedBy r e a b (openedOf r e)
+-- ONE OF EACH SHEET, for a window
+pub record OpensPair (r1 r2 : Reading) (i j a b : ℕ) (o : Pair) (row1 row2 : List ℕ) : Type 0 where
+  pub verdict : Verdict (unlessWindows r1 r2 i j a b) (o .refusal)
+  pub one : o .refusal .number ≡ 0 → Chosen r1 i (o .one) row1
+  pub two : o .refusal .number ≡ 0 → Chosen r2 j (o .two) row2
 
-unfoldable pub buffersOf : Reading → (e a b file packed : ℕ) → Opening
-buffersOf r e a b file packed = unlessBuffers closedBy r e a b file packed (openedOf r e)
-
--- the refusal that goes first, of those of two sheets' elements: sheet 1's, sheet 2's, and then an index
-unfoldable pub soonerOf : (f g : Refusal) → Refusal
-soonerOf f g = cond (eqb (f .sheet) 0) (cond (eqb (g .sheet) 0) (cond (eqb (f .number) 0) g f) g) f
-
--- both sheets, with the refusal of the first that is refused
-unfoldable pub sheetsOf : (r1 r2 : Reading) → Sheets
-sheetsOf r1 r2 = record { refusal = unlessSheets (λ f. f) r1 r2 (callRefusal 0 0); one = r1; two = r2 }
+-- TWO SHEETS
+pub record OpensSheets (r1 r2 : Reading) (o : Sheets) : Type 0 where
+  pub verdict : Verdict (unlessSheets r1 r2) (o .refusal)
+  pub one : o .one ≡ r1
+  pub two : o .two ≡ r2

@@ -1,28 +1,30 @@
 // Openings: how the calls begin. A sheet is read, an element or two sheets are opened, and indexes, offsets, windows and the lengths of buffers are checked:
 // what is opened, or the first refusal in 01's order.
 //
-// `opened` opens, and makes the refusals; `ranges` gives the number that refuses an index, an offset, a window or a length, or 0.
+// `refusals` makes a refusal; `opened` opens an element, `paired` one of each of two sheets, or both sheets; `ranges` gives the number that refuses an index,
+// an offset, a window or a length, or 0.
 use maps::Selection;
 use sheets::Reading;
 
 mod opened;
+mod paired;
 mod ranges;
+mod refusals;
 
-pub use opened::call_refusal;
-pub use opened::closed;
 pub use opened::count;
 pub use opened::open_buffers;
 pub use opened::open_element;
-pub use opened::open_sheets;
 pub use opened::open_window;
-pub use opened::sheet_refusal;
-pub use opened::sooner;
+pub use paired::open_pair;
+pub use paired::open_sheets;
 pub use ranges::buffer_fault;
 pub use ranges::larger;
 pub use ranges::offset_fault;
 pub use ranges::pair_fault;
 pub use ranges::range_fault;
 pub use ranges::trays_fault;
+pub use refusals::call_refusal;
+pub use refusals::sheet_refusal;
 
 // The numbers of 01's table that a call can be refused with though its sheets are accepted.
 pub const ELEMENT: u8 = 12;
@@ -56,6 +58,13 @@ pub struct Refusal {
 pub struct Opening {
     pub refusal: Refusal,
     pub selection: Selection,
+}
+
+// What an element of each of two sheets selects; the refusal as above.
+pub struct Pair {
+    pub refusal: Refusal,
+    pub one: Selection,
+    pub two: Selection,
 }
 
 // Two sheets, with the refusal of the first that is refused. Number 0 is none.

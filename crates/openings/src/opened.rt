@@ -1,81 +1,69 @@
-// Opening an element of a sheet, or two sheets: how the calls begin.
+// Opening an element of a sheet, also for a window, or for a window and two buffers.
 ghost use mathlib.Core.Path.{_≡_};
-ghost use Prim.Native.Nat.{_-_, _≤_};
+ghost use Prim.Native.Nat.{_-_, _≤_, _<_};
 ghost use lib.ListN.{length};
 ghost use Rattle.counting.specs.Count.{countBelow};
-ghost use Rattle.families.specs.Decoded.{rowOf};
+ghost use Rattle.families.specs.Decoded.{rowOf, Layout·ok};
 ghost use Rattle.sheets.specs.Sheet.{readSheet};
-ghost use Rattle.maps.specs.Selected.{belongs, Selection·ok};
-ghost use Rattle.openings.specs.Refusals.{sheetRefusal, callRefusal};
-ghost use Rattle.openings.specs.Openings.{closedBy, openingOf, windowOf, buffersOf, soonerOf, sheetsOf};
+ghost use Rattle.maps.specs.Selected.{belongs, Selection·ok, selectionOf};
+ghost use Rattle.openings.specs.Offsets.{unlessElement, unlessWindow};
+ghost use Rattle.openings.specs.Buffers.{unlessBuffers};
+ghost use Rattle.openings.specs.Openings.{Opens};
 use crate::Opening;
 use crate::Refusal;
-use crate::Sheets;
 use crate::ranges;
+use crate::refusals;
 use families::FileOffset;
+use families::Layout;
 use maps::Selection;
-use sheets::Reading;
 
-// The refusal of the k-th sheet of a call, as its reading says.
-pub fn sheet_refusal(k: u8, reading: Reading) -> Refusal
-    ensures { λ r. ⌜ r ≡ sheetRefusal k reading ⌝ }
-{
-    Refusal {
-        number: reading.number,
-        sheet: k,
-        place: reading.place,
-        flag: reading.flag,
-    }
-}
-
-// A refusal that blames no sheet.
-pub fn call_refusal(number: u8, place: u64) -> Refusal
-    ensures { λ r. ⌜ r ≡ callRefusal number place ⌝ }
-{
-    Refusal {
-        number,
-        sheet: 0,
-        place,
-        flag: sheets::NO_FLAG,
+// What stands where nothing is selected.
+pub fn no_selection() -> Selection {
+    Selection {
+        from: 0,
+        period: 0,
+        levels: 0,
+        first: 0,
+        tops: 0,
+        size: 0,
     }
 }
 
 // What is opened where something is refused.
-pub fn closed(refusal: Refusal) -> Opening
-    ensures { λ r. ⌜ r ≡ closedBy refusal ⌝ }
+fn closed(refusal: Refusal) -> Opening
+    ensures { λ r. ⌜ r .refusal ≡ refusal ⌝ }
 {
     Opening {
         refusal,
-        selection: Selection {
-            from: 0,
-            period: 0,
-            levels: 0,
-            first: 0,
-            tops: 0,
-            size: 0,
-        },
+        selection: no_selection(),
     }
 }
 
-// Opens an element of the k-th sheet of a call. The numbers of the sheet's families are laid out in the row.
-pub fn open_element(sheet: &[u8], k: u8, element: u64, numbers: &mut [u32]) -> Opening
+// What element e of a layout selects, whose pattern has `size` offsets. The numbers of its families are laid out in the row.
+pub fn choose(layout: Layout, size: u32, element: usize, numbers: &mut [u32]) -> Selection
+    requires { ⌜ length (now numbers) ≡ 1536 ⌝ ∗ ⌜ Layout·ok 4 65535 layout ⌝ ∗ ⌜ element < layout .elements ⌝ }
+    ensures { λ r. ⌜ r ≡ selectionOf layout size element ⌝ ∗ ⌜ now (numbers .exit) ≡ rowOf (layout .family) ⌝ }
+{
+    families::lay_out(layout, numbers);
+    maps::selection_of(layout, size, element, numbers)
+}
+
+// Opens an element of a sheet.
+pub fn open_element(sheet: &[u8], element: u64, numbers: &mut [u32]) -> Opening
     requires { ⌜ length (now numbers) ≡ 1536 ⌝ }
-    ensures { λ r. ⌜ r ≡ openingOf k (readSheet (now (sheet .entry))) element ⌝
-        ∗ ⌜ (r .refusal .number ≡ 0 → now (numbers .exit) ≡ rowOf (readSheet (now (sheet .entry)) .layout .family)) ⌝ }
+    ensures { λ r. let reading = readSheet (now (sheet .entry)) in ⌜ Opens (unlessElement reading element) reading element r (now (numbers .exit)) ⌝ }
 {
     let reading = sheets::read(sheet);
     if reading.number != 0 {
-        return closed(sheet_refusal(k, reading));
+        return closed(refusals::sheet_refusal(1, reading));
     }
     let layout = reading.layout;
-    let size = reading.size;
     if layout.elements as u64 <= element {
-        return closed(call_refusal(crate::ELEMENT, 0));
+        return closed(refusals::call_refusal(crate::ELEMENT, 0));
     }
-    families::lay_out(layout, numbers);
-    let selection = maps::selection_of(layout, size, element as usize, numbers);
+    let selection = choose(layout, reading.size, element as usize, numbers);
     Opening {
-        refusal: call_refusal(0, 0),
+        refusal: refusals::call_refusal(0, 0),
         selection,
     }
 }
@@ -89,21 +77,18 @@ pub fn open_window(
     numbers: &mut [u32],
 ) -> Opening
     requires { ⌜ length (now numbers) ≡ 1536 ⌝ }
-    ensures { λ r. ⌜ r ≡ windowOf (readSheet (now (sheet .entry))) element (a .0) (b .0) ⌝
-        ∗ ⌜ (r .refusal .number ≡ 0 → now (numbers .exit) ≡ rowOf (readSheet (now (sheet .entry)) .layout .family)) ⌝ }
+    ensures { λ r. let reading = readSheet (now (sheet .entry)) in
+        ⌜ Opens (unlessWindow reading element (a .0) (b .0)) reading element r (now (numbers .exit)) ⌝ }
 {
-    let opening = open_element(sheet, 1, element, numbers);
+    let opening = open_element(sheet, element, numbers);
     let refused = opening.refusal;
     let selection = opening.selection;
     if refused.number != 0 {
-        return closed(refused);
+        return opening;
     }
     let fault = ranges::range_fault(crate::LIMIT, selection.from, a, b);
-    if fault != 0 {
-        return closed(call_refusal(fault, 0));
-    }
     Opening {
-        refusal: call_refusal(0, 0),
+        refusal: refusals::call_refusal(fault, 0),
         selection,
     }
 }
@@ -129,54 +114,20 @@ pub fn open_buffers(
     numbers: &mut [u32],
 ) -> Opening
     requires { ⌜ length (now numbers) ≡ 1536 ⌝ }
-    ensures { λ r. ⌜ r ≡ buffersOf (readSheet (now (sheet .entry))) element (a .0) (b .0) file packed ⌝
-        ∗ ⌜ (r .refusal .number ≡ 0 → now (numbers .exit) ≡ rowOf (readSheet (now (sheet .entry)) .layout .family)) ⌝ }
+    ensures { λ r. let reading = readSheet (now (sheet .entry)) in
+        ⌜ Opens (unlessBuffers reading element (a .0) (b .0) file packed) reading element r (now (numbers .exit)) ⌝ }
 {
     let opening = open_window(sheet, element, a, b, numbers);
     let refused = opening.refusal;
     let selection = opening.selection;
     if refused.number != 0 {
-        return closed(refused);
+        return opening;
     }
     let bytes = b.0 - a.0;
     let count = count(numbers, selection, a, b);
     let misfit = ranges::buffer_fault(file as u64, bytes, packed as u64, count);
-    if misfit != 0 {
-        return closed(call_refusal(misfit, 0));
-    }
     Opening {
-        refusal: call_refusal(0, 0),
+        refusal: refusals::call_refusal(misfit, 0),
         selection,
     }
-}
-
-// Of the refusals of two sheets' elements the one that goes first: a sheet's own, and then an index.
-pub fn sooner(f: Refusal, g: Refusal) -> Refusal
-    ensures { λ r. ⌜ r ≡ soonerOf f g ⌝ }
-{
-    if f.sheet != 0 {
-        return f;
-    }
-    if g.sheet != 0 {
-        return g;
-    }
-    if f.number != 0 {
-        return f;
-    }
-    g
-}
-
-// Opens two sheets.
-pub fn open_sheets(sheet1: &[u8], sheet2: &[u8]) -> Sheets
-    ensures { λ r. ⌜ r ≡ sheetsOf (readSheet (now (sheet1 .entry))) (readSheet (now (sheet2 .entry))) ⌝ }
-{
-    let one = sheets::read(sheet1);
-    let two = sheets::read(sheet2);
-    let mut refusal = call_refusal(0, 0);
-    if one.number != 0 {
-        refusal = sheet_refusal(1, one);
-    } else if two.number != 0 {
-        refusal = sheet_refusal(2, two);
-    }
-    Sheets { refusal, one, two }
 }

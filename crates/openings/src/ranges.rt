@@ -1,17 +1,15 @@
 // What is checked of indexes, offsets and lengths: the number that refuses them, or 0.
 ghost use mathlib.Core.Path.{_≡_};
-ghost use mathlib.Core.List.{[], _∷_, _++_};
+ghost use mathlib.Core.List.{_++_};
 ghost use Prim.Native.Nat.{_-_, max};
-ghost use lib.Dec.{leb};
-ghost use Rattle.sheets.specs.Refusals.{firstFault, _when_};
-ghost use Rattle.openings.specs.Refusals.{ELEMENT};
-ghost use Rattle.openings.specs.Offsets.{offsetTests, rangeTests, windowTests};
+ghost use Rattle.sheets.specs.Refusals.{firstFault};
+ghost use Rattle.openings.specs.Offsets.{pairTests, offsetTests, rangeTests, windowTests};
 ghost use Rattle.openings.specs.Buffers.{bufferTests};
 use families::FileOffset;
 
 // Of the indexes of a pair, where the sheets have m and n elements.
 pub fn pair_fault(m: u64, i: u64, n: u64, j: u64) -> u8
-    ensures { λ r. ⌜ r ≡ firstFault ((ELEMENT when leb m i) ∷ (ELEMENT when leb n j) ∷ []) ⌝ }
+    ensures { λ r. ⌜ r ≡ firstFault (pairTests m i n j) ⌝ }
 {
     if m <= i {
         return crate::ELEMENT;

@@ -1,6 +1,7 @@
 -- `open_element` meets its contract. Assumes nothing.
 use native.Mathlib.Omega.{arith}
-use Rattle.openings.proofs.Opens.{sheet-closed, layout-rules, element-closed, element-opened}
+use Rattle.openings.proofs.Opens.{layout-rules}
+use Rattle.openings.proofs.ElementOpens.{sheet-closed, element-closed, element-opened}
 use borrow.Author.Needs.{needs}
 use Rattle.openings.proofs.opened.open_element.Statement.{statement}
 use Rattle.openings.proofs.opened.open_element.Tie as tie
@@ -15,7 +16,7 @@ closed-requires : tie.Need-closed-requires
 closed-requires c κs = search needs
 
 returns : tie.Need-returns
-returns c = sheet-closed _ _ _ (c .before .before .before .before .read .ensures) _ _ _ (c .before .sheet-refusal .ensures) (c .closed .ensures) (c .before .before .if1 .taken)
+returns c = sheet-closed _ _ (c .before .before .before .before .read .ensures) _ _ (c .before .sheet-refusal .ensures) (c .before .before .if1 .taken) _ (c .closed .ensures) _
 
 call-refusal-requires : tie.Need-call-refusal-requires
 call-refusal-requires c κs = search needs
@@ -24,13 +25,10 @@ closed-requires-2 : tie.Need-closed-requires-2
 closed-requires-2 c κs = search needs
 
 returns-2 : tie.Need-returns-2
-returns-2 c = element-closed _ _ _ (c .before .before .before .before .before .before .read .ensures) _ (c .before .before .before .before .if1 .left) _ _ (c .before .call-refusal .ensures) (c .closed2 .ensures) (omega (arith, c .before .before .if2 .taken))
+returns-2 c = element-closed _ _ (c .before .before .before .before .before .before .read .ensures) _ (c .before .before .before .before .if1 .left) _ (c .before .call-refusal .ensures) (omega (arith, c .before .before .if2 .taken)) _ (c .closed2 .ensures) _
 
-lay-out-requires : tie.Need-lay-out-requires
-lay-out-requires c κs = search needs
-
-selection-of-requires : tie.Need-selection-of-requires
-selection-of-requires c κs = (c .before .before .before .lay-out .ensures, (layout-rules _ _ (c .before .before .before .before .before .before .before .before .before .read .ensures) (c .before .before .before .before .before .before .before .if1 .left), omega (arith, c .before .before .before .before .before .if2 .left)))
+choose-requires : tie.Need-choose-requires
+choose-requires c κs = (search needs, (layout-rules _ _ (c .before .before .before .before .before .read .ensures) (c .before .before .before .if1 .left), omega (arith, c .before .if2 .left)))
 
 call-refusal-requires-2 : tie.Need-call-refusal-requires-2
 call-refusal-requires-2 c κs = search needs
@@ -39,7 +37,7 @@ same-length : tie.Need-same-length
 same-length c = search needs
 
 returns-3 : tie.Need-returns-3
-returns-3 c = element-opened _ _ _ (c .before .before .before .before .before .before .before .before .before .before .before .read .ensures) _ (c .before .before .before .before .before .before .before .before .before .if1 .left) _ _ _ (c .call-refusal2 .ensures) (c .before .selection-of .ensures) (c .before .before .before .before .before .lay-out .ensures) (c .before .before .before .before .before .before .before .if2 .left)
+returns-3 c = element-opened _ _ (c .before .before .before .before .before .before .before .before .before .read .ensures) _ (c .before .before .before .before .before .before .before .if1 .left) _ (c .call-refusal2 .ensures) (omega (arith, c .before .before .before .before .before .if2 .left)) _ (c .before .before .before .choose .ensures .0) _ (c .before .before .before .choose .ensures .1)
 
 pub open-element-spec : {M : Type 1} → statement M
 open-element-spec =
@@ -52,8 +50,7 @@ open-element-spec =
     call-refusal-requires
     closed-requires-2
     returns-2
-    lay-out-requires
-    selection-of-requires
+    choose-requires
     call-refusal-requires-2
     same-length
     returns-3)
