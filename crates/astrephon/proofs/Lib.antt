@@ -5,14 +5,5 @@ pub mod Listings
 pub mod Transfers
 pub mod TrayMoves
 pub mod Texts
-pub mod Unique
 pub mod Accepting
-pub mod Trays
-pub mod Chains
-pub mod Rebuilding
-pub mod Undoing
-pub mod SharedRuns
-pub mod Panel
-pub mod Samples
-pub mod TrayFigures
-pub mod Figures
+pub mod Contracts

@@ -1,8 +1,8 @@
 -- The calls that map offsets, case by case: an element was opened, and each check that follows refuses or passes. Assumes nothing.
-use mathlib.Core.Path.{_≡_, refl, sym, ap, ap₂, _∙_}
+use mathlib.Core.Path.{_≡_, refl, sym, ap, _∙_}
 use mathlib.Core.Bool.{Bool, true, false, not, true≢false}
 use mathlib.Core.Logic.{⊎-elim}
-use mathlib.Core.List.{List}
+use mathlib.Core.List.{List, [], _∷_}
 use Prim.Native.Nat.{ℕ, _≤_, _<_}
 use native.Mathlib.Omega.{arith}
 use borrow.Author.Tests.{le-leb, lt-leb}
@@ -11,8 +11,6 @@ use Rattle.counting.proofs.Counts.{count-le}
 use Rattle.counting.proofs.Cases.{lt-or-le}
 use Rattle.counting.proofs.Nths.{nth-none}
 use Rattle.counting.proofs.Periods.{owns-none}
-use Rattle.families.specs.declared.FileOffset.{FileOffset}
-use Rattle.families.specs.declared.SubfileOffset.{SubfileOffset}
 use Rattle.families.specs.Forest.{has}
 use Rattle.families.specs.Decoded.{treeOf}
 use Rattle.sheets.specs.declared.Reading.{Reading}
@@ -22,130 +20,127 @@ use Rattle.maps.specs.Selected.{belongs, Byte}
 use Rattle.maps.proofs.BytesOf.{inverse-near, inverse-far}
 use Rattle.openings.specs.declared.Refusal.{Refusal}
 use Rattle.openings.specs.declared.Opening.{Opening}
+use Rattle.openings.specs.Said.{Said, done, refusalSays}
 use Rattle.openings.specs.Refusals.{FAR, FOREIGN, callRefusal, unlessFault}
-use Rattle.openings.specs.Offsets.{LIMIT, offsetsOf, rankOf, placeOf, offsetTests, intervalTests}
-use Rattle.openings.specs.Openings.{openingOf}
+use Rattle.openings.specs.Offsets.{LIMIT, offsetsOf, rankOf, placeOf, offsetTests, intervalTests, unlessElement}
+use Rattle.openings.specs.Openings.{Opens}
 use Rattle.openings.proofs.Orders.{row-there, row-absent, fault-refused, fault-passed}
+use Rattle.openings.proofs.Verdicts.{verdict-refused}
 use Rattle.openings.proofs.Faults.{offset-fine}
-use Rattle.openings.proofs.Opens.{element-on, opening-refused, Opened, opened-on}
-use Rattle.astrephon.specs.declared.Mapped.{Mapped}
-use Rattle.astrephon.specs.declared.Mapped.the-variants as mapped
-use Rattle.astrephon.specs.declared.Located.the-variants as located
-use Rattle.astrephon.specs.declared.Spanned.the-variants as spanned
+use Rattle.openings.proofs.Opens.{element-on, Opened}
 use Rattle.astrephon.specs.Maps.{exactOf, nextOf, inverseOf, spanOf}
 
 -- ---- nothing was opened
-module _ (r : Reading) (e : ℕ) (o : Opening) (is : o ≡ openingOf 1 r e) (d : o .refusal .number ≡ 0 → ⊥) where
-  pub exact-closed : (x : ℕ) → mapped.Refused (o .refusal) ≡ exactOf r e x
+module _ {r : Reading} {e : ℕ} {o : Opening} {row : List ℕ} (O : Opens (unlessElement r e) r e o row) (d : o .refusal .number ≡ 0 → ⊥) where
+  pub exact-closed : (x : ℕ) → refusalSays (o .refusal) ≡ exactOf r e x
   unfolding exactOf
-  exact-closed x = opening-refused 1 r e o is mapped.Refused _ d
+  exact-closed x = verdict-refused (O .verdict) d _
 
-  pub next-closed : (x : ℕ) → mapped.Refused (o .refusal) ≡ nextOf r e x
+  pub next-closed : (x : ℕ) → refusalSays (o .refusal) ≡ nextOf r e x
   unfolding nextOf
-  next-closed x = opening-refused 1 r e o is mapped.Refused _ d
+  next-closed x = verdict-refused (O .verdict) d _
 
-  pub inverse-closed : (y : ℕ) → located.Refused (o .refusal) ≡ inverseOf r e y
+  pub inverse-closed : (y : ℕ) → refusalSays (o .refusal) ≡ inverseOf r e y
   unfolding inverseOf
-  inverse-closed y = opening-refused 1 r e o is located.Refused _ d
+  inverse-closed y = verdict-refused (O .verdict) d _
 
-  pub span-closed : (a z : ℕ) → spanned.Refused (o .refusal) ≡ spanOf r e a z
+  pub span-closed : (a z : ℕ) → refusalSays (o .refusal) ≡ spanOf r e a z
   unfolding spanOf
-  span-closed a z = opening-refused 1 r e o is spanned.Refused _ d
+  span-closed a z = verdict-refused (O .verdict) d _
 
 -- ---- an element that is there: its own bytes are mapped
 module _ (r : Reading) (e : ℕ) (fine : r .number ≡ 0) (there : e < r .layout .elements) where
-  pub exact-own : (x n : ℕ) → n ≡ firstFault (offsetTests (r .layout .displacement) x) → n ≡ 0 → not (offsetsOf r e x) ≡ false → mapped.At (record { 0 = rankOf r e x }) ≡ exactOf r e x
+  pub exact-own : (x n : ℕ) → n ≡ firstFault (offsetTests (r .layout .displacement) x) → n ≡ 0 → not (offsetsOf r e x) ≡ false → done (rankOf r e x ∷ []) ≡ exactOf r e x
   unfolding exactOf
-  exact-own x n q z own =
-      fault-passed mapped.Refused _ _ 0 (row-absent FOREIGN _ own) refl ∙ fault-passed mapped.Refused _ _ n q z ∙ element-on mapped.Refused _ 1 r e fine there
+  exact-own x n q z own = fault-passed _ _ 0 (row-absent FOREIGN _ own) refl ∙ fault-passed _ _ n q z ∙ element-on r e _ fine there
 
   from-on : (x : ℕ) → offsetsOf r e x ≡ true → r .layout .displacement ≤ x
   unfolding offsetsOf
   from-on x own = ⊎-elim (λ h. absurd (true≢false (sym own ∙ owns-none (r .layout .displacement) (r .size) (has (treeOf 4 (r .layout) e)) x h))) (λ h. h) (lt-or-le x (r .layout .displacement))
 
-  pub exact-byte : (x y : ℕ) → Byte (offsetsOf r e) y x → x < LIMIT → mapped.At (record { 0 = y }) ≡ exactOf r e x
+  pub exact-byte : (x y : ℕ) → Byte (offsetsOf r e) y x → x < LIMIT → done (y ∷ []) ≡ exactOf r e x
   exact-byte x y B near =
-      ap mapped.At (λ i. record { 0 = sym (B .1) i })
-      ∙ exact-own x 0 (offset-fine (r .layout .displacement) x (from-on x (B .0)) near) refl (ap not (B .0))
+      ap (λ (n : ℕ). done (n ∷ [])) (sym (B .1)) ∙ exact-own x 0 (offset-fine (r .layout .displacement) x (from-on x (B .0)) near) refl (ap not (B .0))
 
-  pub inverse-own : (y x : ℕ) → Byte (offsetsOf r e) y x → x < LIMIT → located.At (record { 0 = x }) ≡ inverseOf r e y
+  pub inverse-own : (y x : ℕ) → Byte (offsetsOf r e) y x → x < LIMIT → done (x ∷ []) ≡ inverseOf r e y
   unfolding inverseOf
   inverse-own y x B near =
       let is : placeOf r e y ≡ x = inverse-near (offsetsOf r e) y x B LIMIT near in
-      ap located.At (λ i. record { 0 = sym is i })
-      ∙ fault-passed located.Refused _ _ 0 (row-absent FAR _ (lt-leb LIMIT (placeOf r e y) (omega (arith, is)))) refl ∙ element-on located.Refused _ 1 r e fine there
+      ap (λ (n : ℕ). done (n ∷ [])) (sym is)
+      ∙ fault-passed _ _ 0 (row-absent FAR _ (lt-leb LIMIT (placeOf r e y) (omega (arith, is)))) refl ∙ element-on r e _ fine there
 
 -- ---- an element was opened
 module _ {r : Reading} {e : ℕ} {s : Selection} {row : List ℕ} (O : Opened r e s row) where
+  on : (next : Said) → next ≡ unlessElement r e next
+  on next = element-on r e next (O .fine) (O .there)
+
   tests-from : (x n : ℕ) → n ≡ firstFault (offsetTests (s .from) x) → n ≡ firstFault (offsetTests (r .layout .displacement) x)
   tests-from x n q = q ∙ ap (λ (d : ℕ). firstFault (offsetTests d x)) (O .from)
 
-  ranked : (x : ℕ) (y : SubfileOffset) → y .0 ≡ countBelow (belongs s row) x → y ≡ record { 0 = countBelow (offsetsOf r e) x }
-  ranked x y q = λ i. record { 0 = (q ∙ ap (λ (p : ℕ → Bool). countBelow p x) (O .is)) i }
+  ranked : (x y : ℕ) → y ≡ countBelow (belongs s row) x → y ≡ rankOf r e x
+  ranked x y q = q ∙ ap (λ (p : ℕ → Bool). countBelow p x) (O .is)
 
   module _ (x n : ℕ) (q : n ≡ firstFault (offsetTests (s .from) x)) where
     -- ---- an offset that is refused
     module _ (f : Refusal) (made : f ≡ callRefusal n 0) (d : n ≡ 0 → ⊥) where
-      pub exact-fault : mapped.Refused f ≡ exactOf r e x
+      pub exact-fault : refusalSays f ≡ exactOf r e x
       unfolding exactOf
-      exact-fault = fault-refused mapped.Refused _ _ n (tests-from x n q) f made d ∙ opened-on O 1 mapped.Refused _
+      exact-fault = fault-refused _ _ n (tests-from x n q) f made d ∙ on _
 
-      pub next-fault : mapped.Refused f ≡ nextOf r e x
+      pub next-fault : refusalSays f ≡ nextOf r e x
       unfolding nextOf
-      next-fault = fault-refused mapped.Refused _ _ n (tests-from x n q) f made d ∙ opened-on O 1 mapped.Refused _
+      next-fault = fault-refused _ _ n (tests-from x n q) f made d ∙ on _
 
     -- ---- and one that is not: another element's, or this one's
     module _ (z : n ≡ 0) where
-      past-offset : (next : Mapped) → next ≡ unlessFault mapped.Refused (offsetTests (r .layout .displacement) x) next
-      past-offset next = fault-passed mapped.Refused next _ n (tests-from x n q) z
+      past-offset : (next : Said) → next ≡ unlessFault (offsetTests (r .layout .displacement) x) next
+      past-offset next = fault-passed next _ n (tests-from x n q) z
 
       module _ (b : Bool) (has : b ≡ belongs s row x) where
         has-not : not b ≡ not (offsetsOf r e x)
         has-not = ap not (has ∙ ap (λ (p : ℕ → Bool). p x) (O .is))
 
-        pub exact-foreign : (f : Refusal) → f ≡ callRefusal FOREIGN 0 → not b ≡ true → mapped.Refused f ≡ exactOf r e x
+        pub exact-foreign : (f : Refusal) → f ≡ callRefusal FOREIGN 0 → not b ≡ true → refusalSays f ≡ exactOf r e x
         unfolding exactOf
-        exact-foreign f made foreign =
-            fault-refused mapped.Refused _ _ FOREIGN (row-there FOREIGN _ (sym has-not ∙ foreign)) f made (λ z. absurd (omega arith)) ∙ past-offset _ ∙ opened-on O 1 mapped.Refused _
+        exact-foreign f made foreign = fault-refused _ _ FOREIGN (row-there FOREIGN _ (sym has-not ∙ foreign)) f made (λ z. absurd (omega arith)) ∙ past-offset _ ∙ on _
 
-        pub exact-at : (y : SubfileOffset) → y .0 ≡ countBelow (belongs s row) x → not b ≡ false → mapped.At y ≡ exactOf r e x
-        exact-at y rank own = ap mapped.At (ranked x y rank) ∙ exact-own r e (O .fine) (O .there) x n (tests-from x n q) z (sym has-not ∙ own)
+        pub exact-at : (y : ℕ) → y ≡ countBelow (belongs s row) x → not b ≡ false → done (y ∷ []) ≡ exactOf r e x
+        exact-at y rank own = ap (λ (m : ℕ). done (m ∷ [])) (ranked x y rank) ∙ exact-own r e (O .fine) (O .there) x n (tests-from x n q) z (sym has-not ∙ own)
 
-      pub next-at : (y : SubfileOffset) → y .0 ≡ countBelow (belongs s row) x → mapped.At y ≡ nextOf r e x
+      pub next-at : (y : ℕ) → y ≡ countBelow (belongs s row) x → done (y ∷ []) ≡ nextOf r e x
       unfolding nextOf
-      next-at y rank = ap mapped.At (ranked x y rank) ∙ past-offset _ ∙ opened-on O 1 mapped.Refused _
+      next-at y rank = ap (λ (m : ℕ). done (m ∷ [])) (ranked x y rank) ∙ past-offset _ ∙ on _
 
   -- ---- the inverse: a byte with no file offset below the limit, and one that has it
   module _ (y : ℕ) where
-    no-place : placeOf r e y ≡ LIMIT → (f : Refusal) → f ≡ callRefusal FAR 0 → located.Refused f ≡ inverseOf r e y
+    no-place : placeOf r e y ≡ LIMIT → (f : Refusal) → f ≡ callRefusal FAR 0 → refusalSays f ≡ inverseOf r e y
     unfolding inverseOf
-    no-place far f made =
-        fault-refused located.Refused _ _ FAR (row-there FAR _ (le-leb LIMIT (placeOf r e y) (omega (arith, far)))) f made (λ z. absurd (omega arith)) ∙ opened-on O 1 located.Refused _
+    no-place far f made = fault-refused _ _ FAR (row-there FAR _ (le-leb LIMIT (placeOf r e y) (omega (arith, far)))) f made (λ z. absurd (omega arith)) ∙ on _
 
     -- byte y has y bytes before it
-    pub inverse-past : LIMIT ≤ y → (f : Refusal) → f ≡ callRefusal FAR 0 → located.Refused f ≡ inverseOf r e y
+    pub inverse-past : LIMIT ≤ y → (f : Refusal) → f ≡ callRefusal FAR 0 → refusalSays f ≡ inverseOf r e y
     inverse-past h = no-place (nth-none (offsetsOf r e) LIMIT y (omega (arith, count-le (offsetsOf r e) LIMIT)))
 
-    module _ (x : FileOffset) (byte : Byte (belongs s row) y (x .0)) where
-      byte-of : Byte (offsetsOf r e) y (x .0)
+    module _ (x : ℕ) (byte : Byte (belongs s row) y x) where
+      byte-of : Byte (offsetsOf r e) y x
       byte-of = rw (← (O .is)) byte
 
-      pub inverse-beyond : LIMIT ≤ x .0 → (f : Refusal) → f ≡ callRefusal FAR 0 → located.Refused f ≡ inverseOf r e y
-      inverse-beyond h = no-place (inverse-far (offsetsOf r e) y (x .0) byte-of LIMIT h)
+      pub inverse-beyond : LIMIT ≤ x → (f : Refusal) → f ≡ callRefusal FAR 0 → refusalSays f ≡ inverseOf r e y
+      inverse-beyond h = no-place (inverse-far (offsetsOf r e) y x byte-of LIMIT h)
 
-      pub inverse-at : x .0 < LIMIT → located.At x ≡ inverseOf r e y
-      inverse-at h = inverse-own r e (O .fine) (O .there) y (x .0) byte-of h
+      pub inverse-at : x < LIMIT → done (x ∷ []) ≡ inverseOf r e y
+      inverse-at h = inverse-own r e (O .fine) (O .there) y x byte-of h
 
   -- ---- the span
   module _ (a z n : ℕ) (q : n ≡ firstFault (intervalTests (s .from) a z)) where
     interval-from : n ≡ firstFault (intervalTests (r .layout .displacement) a z)
     interval-from = q ∙ ap (λ (d : ℕ). firstFault (intervalTests d a z)) (O .from)
 
-    pub span-fault : (f : Refusal) → f ≡ callRefusal n 0 → (n ≡ 0 → ⊥) → spanned.Refused f ≡ spanOf r e a z
+    pub span-fault : (f : Refusal) → f ≡ callRefusal n 0 → (n ≡ 0 → ⊥) → refusalSays f ≡ spanOf r e a z
     unfolding spanOf
-    span-fault f made d = fault-refused spanned.Refused _ _ n interval-from f made d ∙ opened-on O 1 spanned.Refused _
+    span-fault f made d = fault-refused _ _ n interval-from f made d ∙ on _
 
-    pub span-at : n ≡ 0 → (first last : SubfileOffset) → first .0 ≡ countBelow (belongs s row) a → last .0 ≡ countBelow (belongs s row) z → spanned.Range first last ≡ spanOf r e a z
+    pub span-at : n ≡ 0 → (first last : ℕ) → first ≡ countBelow (belongs s row) a → last ≡ countBelow (belongs s row) z → done (first ∷ last ∷ []) ≡ spanOf r e a z
     unfolding spanOf
     span-at none first last f l =
-        ap₂ spanned.Range (ranked a first f) (ranked z last l) ∙ fault-passed spanned.Refused _ _ n interval-from none ∙ opened-on O 1 spanned.Refused _
+        (λ i. done (ranked a first f i ∷ ranked z last l i ∷ [])) ∙ fault-passed _ _ n interval-from none ∙ on _

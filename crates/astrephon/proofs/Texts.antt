@@ -1,6 +1,6 @@
 -- `list_sheet` case by case, and that a long buffer is enough. Assumes nothing.
 use mathlib.Core.Path.{_≡_, refl, sym, ap, _∙_}
-use mathlib.Core.List.{List, _++_}
+use mathlib.Core.List.{List, [], _∷_, _++_}
 use Prim.Native.Nat.{ℕ, _≤_, _<_}
 use native.Mathlib.Nat.{zero-add}
 use native.Mathlib.Omega.{arith}
@@ -8,19 +8,13 @@ use borrow.Author.Tests.{lt-ltb, le-ltb}
 use lib.Dec.{ltb}
 use lib.ListN.{length, take, drop, length-append}
 use lib.Seq.{paste, length-take-le}
-use Rattle.counting.proofs.Cases.{byTest}
-use Rattle.sheets.specs.Refusals.{firstFault}
+use Rattle.sheets.specs.Refusals.{_when_}
 use Rattle.words.specs.Texts.{Put}
 use Rattle.openings.specs.declared.Refusal.{Refusal}
-use Rattle.astrephon.specs.declared.Written.{Written}
-use Rattle.astrephon.specs.declared.Written.the-variants.{Bytes, Refused}
-use Rattle.openings.specs.Refusals.{BUFFER, callRefusal, unlessFault, Outcome, stays}
+use Rattle.openings.specs.Said.{done, refusalSays}
+use Rattle.openings.specs.Refusals.{BUFFER, callRefusal}
+use Rattle.openings.proofs.Orders.{row-there, row-absent, fault-refused, fault-passed, fault-through, same-value, left-written, writes-not, writes}
 use Rattle.astrephon.specs.Texts.{writtenOf}
-use Rattle.openings.proofs.Orders.{row-there, row-absent, fault-refused, fault-passed, parts}
-
--- what a call leaves, by its answer and its buffer
-abbrev Leaves : Outcome Written → (answer : Written) → (later : List ℕ) → Type 0
-Leaves done answer later = (answer ≡ done .answer) × (later ≡ done .later)
 
 -- ---- a text of n bytes stands at the front of `whole`
 module _ {text before whole : List ℕ} {most n : ℕ} (P : Put text most 0 n before whole) (room : most ≤ length before) where
@@ -31,26 +25,23 @@ module _ {text before whole : List ℕ} {most n : ℕ} (P : Put text most 0 n be
   text-long = ap length (sym text-is) ∙ length-take-le n whole (omega (arith, P .short, P .kept))
 
   module _ (held : List ℕ) where
-    pub written-refused : (f : Refusal) → f ≡ callRefusal BUFFER 0 → length held < n → Leaves (writtenOf text held) (Refused f) held
+    pub written-refused : (f : Refusal) → f ≡ callRefusal BUFFER 0 → length held < n → let outcome = writtenOf text held in (refusalSays f ≡ outcome .says) × (held ≡ outcome .later)
     unfolding writtenOf
     written-refused f is short =
-        parts (writtenOf text held)
-        (fault-refused (stays Refused held) _ _ BUFFER (row-there BUFFER _ (lt-ltb (length held) (length text) (omega (arith, text-long)))) f is (λ z. omega arith))
+        writes-not held _ f (fault-refused _ _ BUFFER (row-there BUFFER _ (lt-ltb (length held) (length text) (omega (arith, text-long)))) f is (λ z. omega arith))
 
-    pub written-done : {later : List ℕ} → n ≤ length held → later ≡ paste held 0 whole n → Leaves (writtenOf text held) (Bytes n) later
+    pub written-done : {later : List ℕ} → n ≤ length held → later ≡ paste held 0 whole n → let outcome = writtenOf text held in (done (n ∷ []) ≡ outcome .says) × (later ≡ outcome .later)
     unfolding writtenOf
     written-done fits is =
-        let passed = fault-passed (stays Refused held) (record { answer = Bytes (length text); later = text ++ drop (length text) held }) _ 0
-        (row-absent BUFFER _ (le-ltb (length held) (length text) (omega (arith, text-long)))) refl in
-        let q = parts (writtenOf text held) passed in
         let front : paste held 0 whole n ≡ text ++ drop (length text) held = rw (zero-add, text-is, text-long) refl in
-        (ap Bytes (sym text-long) ∙ q .0, is ∙ front ∙ q .1)
+        writes held _
+        (ap (λ (m : ℕ). done (m ∷ [])) (sym text-long) ∙ fault-passed _ _ 0 (row-absent BUFFER _ (le-ltb (length held) (length text) (omega (arith, text-long)))) refl)
+        (is ∙ front)
 
 -- ---- what was written is no longer than what it was written to
-pub written-fits : (text held : List ℕ) {later : List ℕ} {n : ℕ} → Bytes n ≡ writtenOf text held .answer → later ≡ writtenOf text held .later → n ≤ length later
-unfolding writtenOf unlessFault firstFault
-written-fits text held {later} {n} is left = byTest (ltb (length held) (length text))
-    (λ short. let refused : Bytes n ≡ Refused (callRefusal BUFFER 0) = rw short at is in let no : _≡_ {A = ℕ} 0 1 = cc in absurd (omega arith))
-    (λ fits. let bytes : Bytes n ≡ Bytes (length text) = rw fits at is in
-    let e : n ≡ length text = cc in
-    omega (arith, e, ap length (rw fits at left), length-append text (drop (length text) held)))
+pub written-fits : (text held : List ℕ) {later : List ℕ} {n : ℕ} → done (n ∷ []) ≡ writtenOf text held .says → later ≡ writtenOf text held .later → n ≤ length later
+unfolding writtenOf
+written-fits text held is left =
+    let long = same-value (fault-through ((BUFFER when ltb (length held) (length text)) ∷ []) (sym is) .1) in
+    let whole = left ∙ left-written held (text ++ drop (length text) held) is in
+    omega (arith, long, ap length whole, length-append text (drop (length text) held))

@@ -1,14 +1,14 @@
--- THE CALL `check`: the answer to every list of bytes. Assumes nothing: these are definitions.
-use mathlib.Core.List.{List}
+-- THE CALL `check`: what it says of every list of bytes. Assumes nothing: these are definitions.
+use mathlib.Core.List.{List, [], _∷_}
 use Prim.Native.Nat.{ℕ}
 use Rattle.sheets.specs.declared.Reading.{Reading}
 use Rattle.sheets.specs.Sheet.{readSheet}
+use Rattle.openings.specs.Said.{Said, done}
 use Rattle.openings.specs.Refusals.{unlessSheet}
-use Rattle.astrephon.specs.declared.Checked.{Checked}
-use Rattle.astrephon.specs.declared.Checked.the-variants.{Accepted, Refused}
 
-unfoldable pub checkedOf : Reading → Checked
-checkedOf r = unlessSheet Refused 1 r (Accepted (record { displacement = r .layout .displacement; size = r .size; elements = r .layout .elements }))
+-- the pattern's size, how many elements share it, and the displacement
+unfoldable pub checkedOf : Reading → Said
+checkedOf r = unlessSheet 1 r (done (r .size ∷ r .layout .elements ∷ r .layout .displacement ∷ []))
 
-unfoldable pub checkCall : List ℕ → Checked
+abbrev pub checkCall : List ℕ → Said
 checkCall xs = checkedOf (readSheet xs)

@@ -1,3 +1,4 @@
+pub mod Said
 pub mod Check
 pub mod Maps
 pub mod Shares
@@ -5,4 +6,3 @@ pub mod Carries
 pub mod Moves
 pub mod Texts
 pub mod Sequences
-pub mod Said

@@ -1,9 +1,6 @@
--- What an answer says in 01's numbers, case by case: the number (0 where the call did its work), the sheet at fault, the place and the flag,
--- the values that an answer gives, and what the lent buffer holds afterwards, if there is one. Assumes nothing: these are definitions.
-use mathlib.Core.List.{List, [], _∷_}
-use Prim.Native.Nat.{ℕ}
-use Rattle.openings.specs.declared.Refusal.{Refusal}
-use Rattle.openings.specs.Refusals.{Outcome}
+-- WHAT EACH ANSWER SAYS: 01's number and values for each of its cases. The promises of the calls are said of these. Assumes nothing: these are definitions.
+use mathlib.Core.List.{[], _∷_}
+use Rattle.openings.specs.Said.{Said, done, refusalSays}
 use Rattle.astrephon.specs.declared.Checked.{Checked}
 use Rattle.astrephon.specs.declared.Checked.the-variants as checked
 use Rattle.astrephon.specs.declared.Mapped.{Mapped}
@@ -21,60 +18,38 @@ use Rattle.astrephon.specs.declared.Carried.the-variants as carried
 use Rattle.astrephon.specs.declared.Written.{Written}
 use Rattle.astrephon.specs.declared.Written.the-variants as written
 
-pub record Said : Type 0 where
-  pub number : ℕ
-  pub sheet : ℕ
-  pub place : ℕ
-  pub flag : ℕ
-  pub values : List ℕ
-  pub buffer : List ℕ
+-- an accepted sheet: its pattern's size, how many elements share it, and the displacement
+abbrev pub checkedSays : Checked → Said
+checkedSays (checked.Accepted f) = done (f .size ∷ f .elements ∷ f .displacement ∷ [])
+checkedSays (checked.Refused f) = refusalSays f
 
-abbrev pub done : (values : List ℕ) → Said
-done values = record { number = 0; sheet = 0; place = 0; flag = 0; values = values; buffer = [] }
-
-abbrev pub refusalSays : Refusal → Said
-refusalSays r = record { number = r .number; sheet = r .sheet; place = r .place; flag = r .flag; values = []; buffer = [] }
-
-abbrev pub holding : Said → (buffer : List ℕ) → Said
-holding s buffer = record { number = s .number; sheet = s .sheet; place = s .place; flag = s .flag; values = s .values; buffer = buffer }
-
-unfoldable pub checkSays : Checked → Said
-checkSays (checked.Accepted f) = done (f .displacement ∷ f .size ∷ f .elements ∷ [])
-checkSays (checked.Refused r) = refusalSays r
-
-unfoldable pub mappedSays : Mapped → Said
+-- a subfile offset, a file offset, the first and the last of a span
+abbrev pub mappedSays : Mapped → Said
 mappedSays (mapped.At y) = done (y .0 ∷ [])
-mappedSays (mapped.Refused r) = refusalSays r
+mappedSays (mapped.Refused f) = refusalSays f
 
-unfoldable pub locatedSays : Located → Said
+abbrev pub locatedSays : Located → Said
 locatedSays (located.At x) = done (x .0 ∷ [])
-locatedSays (located.Refused r) = refusalSays r
+locatedSays (located.Refused f) = refusalSays f
 
-unfoldable pub spannedSays : Spanned → Said
+abbrev pub spannedSays : Spanned → Said
 spannedSays (spanned.Range first last) = done (first .0 ∷ last .0 ∷ [])
-spannedSays (spanned.Refused r) = refusalSays r
+spannedSays (spanned.Refused f) = refusalSays f
 
-unfoldable pub listedSays : Listed → Said
+-- how many runs were listed, how many bytes there are, and how many were written
+abbrev pub listedSays : Listed → Said
 listedSays (listed.Runs n) = done (n ∷ [])
-listedSays (listed.Refused r) = refusalSays r
+listedSays (listed.Refused f) = refusalSays f
 
-abbrev pub sharedSays : Outcome Listed → Said
-sharedSays o = holding (listedSays (o .answer)) (o .later)
-
-unfoldable pub measuredSays : Measured → Said
+abbrev pub measuredSays : Measured → Said
 measuredSays (measured.Bytes n) = done (n ∷ [])
-measuredSays (measured.Refused r) = refusalSays r
+measuredSays (measured.Refused f) = refusalSays f
 
-unfoldable pub carriedSays : Carried → Said
-carriedSays carried.Done = done []
-carriedSays (carried.Refused r) = refusalSays r
-
-abbrev pub movedSays : Outcome Carried → Said
-movedSays o = holding (carriedSays (o .answer)) (o .later)
-
-unfoldable pub writtenSays : Written → Said
+abbrev pub writtenSays : Written → Said
 writtenSays (written.Bytes n) = done (n ∷ [])
-writtenSays (written.Refused r) = refusalSays r
+writtenSays (written.Refused f) = refusalSays f
 
-abbrev pub textSays : Outcome Written → Said
-textSays o = holding (writtenSays (o .answer)) (o .later)
+-- a call that moves bytes gives no value
+abbrev pub carriedSays : Carried → Said
+carriedSays carried.Done = done []
+carriedSays (carried.Refused f) = refusalSays f

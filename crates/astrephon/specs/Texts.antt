@@ -7,15 +7,12 @@ use lib.ListN.{length, drop}
 use Rattle.sheets.specs.Refusals.{_when_}
 use Rattle.sheets.specs.Sheet.{readSheet}
 use Rattle.lines.specs.Listing.{listing}
-use Rattle.astrephon.specs.declared.Written.{Written}
-use Rattle.astrephon.specs.declared.Written.the-variants.{Bytes, Refused}
-use Rattle.openings.specs.Refusals.{BUFFER, unlessFault, Outcome, stays}
+use Rattle.openings.specs.Said.{done, Outcome, writing}
+use Rattle.openings.specs.Refusals.{BUFFER, unlessFault}
 
 -- a text at the front of what a buffer held; later bytes stay
-unfoldable pub writtenOf : (text held : List ℕ) → Outcome Written
-writtenOf text held =
-    unlessFault (stays Refused held) ((BUFFER when ltb (length held) (length text)) ∷ [])
-    (record { answer = Bytes (length text); later = text ++ drop (length text) held })
+unfoldable pub writtenOf : (text held : List ℕ) → Outcome
+writtenOf text held = writing (unlessFault ((BUFFER when ltb (length held) (length text)) ∷ []) (done (length text ∷ []))) held (text ++ drop (length text) held)
 
-abbrev pub writtenCall : List ℕ → (held : List ℕ) → Outcome Written
+abbrev pub writtenCall : List ℕ → (held : List ℕ) → Outcome
 writtenCall xs held = writtenOf (listing (readSheet xs)) held

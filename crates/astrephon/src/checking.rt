@@ -1,12 +1,13 @@
 // Checking one sheet.
 ghost use mathlib.Core.Path.{_≡_};
+ghost use Rattle.astrephon.specs.Said.{checkedSays};
 ghost use Rattle.astrephon.specs.Check.{checkCall};
 use crate::Checked;
 use crate::Facts;
 
 // Whether the bytes are the sheet of a layout: its facts, or the first refusal in 01's order.
 pub fn check(sheet: &[u8]) -> Checked
-    ensures { λ r. ⌜ r ≡ checkCall (now (sheet .entry)) ⌝ }
+    ensures { λ r. ⌜ checkedSays r ≡ checkCall (now (sheet .entry)) ⌝ }
 {
     let reading = sheets::read(sheet);
     if reading.number != 0 {

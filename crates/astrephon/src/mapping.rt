@@ -1,5 +1,6 @@
 // Mapping offsets between the file and the subfile of one element.
 ghost use mathlib.Core.Path.{_≡_};
+ghost use Rattle.astrephon.specs.Said.{mappedSays, locatedSays, spannedSays};
 ghost use Rattle.astrephon.specs.Maps.{exactCall, nextCall, inverseCall, spanCall};
 use crate::FileOffset;
 use crate::Located;
@@ -9,10 +10,10 @@ use crate::SubfileOffset;
 
 // Exact mapping: the subfile offset of a file offset of the element.
 pub fn exact(sheet: &[u8], element: u64, x: FileOffset) -> Mapped
-    ensures { λ r. ⌜ r ≡ exactCall (now (sheet .entry)) element (x .0) ⌝ }
+    ensures { λ r. ⌜ mappedSays r ≡ exactCall (now (sheet .entry)) element (x .0) ⌝ }
 {
     let mut numbers = [0u32; 1536];
-    let opening = openings::open_element(sheet, 1, element, &mut numbers);
+    let opening = openings::open_element(sheet, element, &mut numbers);
     let refusal = opening.refusal;
     let selection = opening.selection;
     if refusal.number != 0 {
@@ -31,10 +32,10 @@ pub fn exact(sheet: &[u8], element: u64, x: FileOffset) -> Mapped
 
 // Next mapping: the rank of any file offset from the displacement on, which is the subfile offset of the element's next byte.
 pub fn next(sheet: &[u8], element: u64, x: FileOffset) -> Mapped
-    ensures { λ r. ⌜ r ≡ nextCall (now (sheet .entry)) element (x .0) ⌝ }
+    ensures { λ r. ⌜ mappedSays r ≡ nextCall (now (sheet .entry)) element (x .0) ⌝ }
 {
     let mut numbers = [0u32; 1536];
-    let opening = openings::open_element(sheet, 1, element, &mut numbers);
+    let opening = openings::open_element(sheet, element, &mut numbers);
     let refusal = opening.refusal;
     let selection = opening.selection;
     if refusal.number != 0 {
@@ -50,10 +51,10 @@ pub fn next(sheet: &[u8], element: u64, x: FileOffset) -> Mapped
 
 // Inverse mapping: the file offset of byte y of the element's subfile. Byte y has y bytes before it, so a y past the limit is told at once, and nothing wraps.
 pub fn inverse(sheet: &[u8], element: u64, y: SubfileOffset) -> Located
-    ensures { λ r. ⌜ r ≡ inverseCall (now (sheet .entry)) element (y .0) ⌝ }
+    ensures { λ r. ⌜ locatedSays r ≡ inverseCall (now (sheet .entry)) element (y .0) ⌝ }
 {
     let mut numbers = [0u32; 1536];
-    let opening = openings::open_element(sheet, 1, element, &mut numbers);
+    let opening = openings::open_element(sheet, element, &mut numbers);
     let refusal = opening.refusal;
     if refusal.number != 0 {
         return Located::Refused(refusal);
@@ -70,10 +71,10 @@ pub fn inverse(sheet: &[u8], element: u64, y: SubfileOffset) -> Located
 
 // The span of an interval, both ends a and z meant: the subfile offsets from the rank of a to the rank of z, both included.
 pub fn span(sheet: &[u8], element: u64, a: FileOffset, z: FileOffset) -> Spanned
-    ensures { λ r. ⌜ r ≡ spanCall (now (sheet .entry)) element (a .0) (z .0) ⌝ }
+    ensures { λ r. ⌜ spannedSays r ≡ spanCall (now (sheet .entry)) element (a .0) (z .0) ⌝ }
 {
     let mut numbers = [0u32; 1536];
-    let opening = openings::open_element(sheet, 1, element, &mut numbers);
+    let opening = openings::open_element(sheet, element, &mut numbers);
     let refusal = opening.refusal;
     let selection = opening.selection;
     if refusal.number != 0 {

@@ -1,5 +1,6 @@
 // Moving bytes from a tray of one sheet's layout to a tray of another's.
 ghost use mathlib.Core.Path.{_≡_};
+ghost use Rattle.astrephon.specs.Said.{carriedSays};
 ghost use Rattle.astrephon.specs.Moves.{movedCall, pairMovedCall};
 use crate::Carried;
 use crate::FileOffset;
@@ -15,8 +16,8 @@ pub fn move_tray(
     tray1: &[u8],
     tray2: &mut [u8],
 ) -> Carried
-    ensures { λ r. let done = movedCall (now (sheet1 .entry)) (now (sheet2 .entry)) (a .0) (b .0) (now (tray1 .entry)) (now (tray2 .entry)) in
-        ⌜ r ≡ done .answer ⌝ ∗ ⌜ now (tray2 .exit) ≡ done .later ⌝ }
+    ensures { λ r. let outcome = movedCall (now (sheet1 .entry)) (now (sheet2 .entry)) (a .0) (b .0) (now (tray1 .entry)) (now (tray2 .entry)) in
+        ⌜ carriedSays r ≡ outcome .says ⌝ ∗ ⌜ now (tray2 .exit) ≡ outcome .later ⌝ }
 {
     let both = openings::open_sheets(sheet1, sheet2);
     let refusal = both.refusal;
@@ -46,8 +47,8 @@ pub fn move_pair(
     tray1: &[u8],
     tray2: &mut [u8],
 ) -> Carried
-    ensures { λ r. let done = pairMovedCall (now (sheet1 .entry)) (now (sheet2 .entry)) i j (a .0) (b .0) (now (tray1 .entry)) (now (tray2 .entry)) in
-        ⌜ r ≡ done .answer ⌝ ∗ ⌜ now (tray2 .exit) ≡ done .later ⌝ }
+    ensures { λ r. let outcome = pairMovedCall (now (sheet1 .entry)) (now (sheet2 .entry)) i j (a .0) (b .0) (now (tray1 .entry)) (now (tray2 .entry)) in
+        ⌜ carriedSays r ≡ outcome .says ⌝ ∗ ⌜ now (tray2 .exit) ≡ outcome .later ⌝ }
 {
     let both = openings::open_sheets(sheet1, sheet2);
     let refusal = both.refusal;

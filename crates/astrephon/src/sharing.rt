@@ -1,5 +1,6 @@
 // What two elements share: the runs of file offsets that are in both.
 ghost use mathlib.Core.Path.{_≡_};
+ghost use Rattle.astrephon.specs.Said.{listedSays};
 ghost use Rattle.astrephon.specs.Shares.{sharedCall};
 use crate::FileOffset;
 use crate::Listed;
@@ -16,27 +17,19 @@ pub fn shared_runs(
     b: FileOffset,
     list: &mut [u64],
 ) -> Listed
-    ensures { λ r. let done = sharedCall (now (sheet1 .entry)) (now (sheet2 .entry)) i j (a .0) (b .0) (now (list .entry)) in
-        ⌜ r ≡ done .answer ⌝ ∗ ⌜ now (list .exit) ≡ done .later ⌝ }
+    ensures { λ r. let outcome = sharedCall (now (sheet1 .entry)) (now (sheet2 .entry)) i j (a .0) (b .0) (now (list .entry)) in
+        ⌜ listedSays r ≡ outcome .says ⌝ ∗ ⌜ now (list .exit) ≡ outcome .later ⌝ }
 {
     let mut numbers1 = [0u32; 1536];
     let mut numbers2 = [0u32; 1536];
-    let one = openings::open_element(sheet1, 1, i, &mut numbers1);
-    let two = openings::open_element(sheet2, 2, j, &mut numbers2);
-    let refusal = openings::sooner(one.refusal, two.refusal);
+    let pair = openings::open_pair(sheet1, sheet2, i, j, a, b, &mut numbers1, &mut numbers2);
+    let refusal = pair.refusal;
     if refusal.number != 0 {
         return Listed::Refused(refusal);
     }
-    let s1 = one.selection;
-    let s2 = two.selection;
-    let from = openings::larger(s1.from, s2.from);
-    let fault = openings::range_fault(crate::LIMIT, from, a, b);
-    if fault != 0 {
-        return Listed::Refused(openings::call_refusal(fault, 0));
-    }
     let window = Window { start: a, end: b };
     let room = list.len() as u64 / 4;
-    let runs = runs::list_shared(&numbers1, s1, &numbers2, s2, window, list);
+    let runs = runs::list_shared(&numbers1, pair.one, &numbers2, pair.two, window, list);
     if room < runs {
         return Listed::Refused(openings::call_refusal(crate::ROOM, runs));
     }

@@ -9,7 +9,7 @@ use Rattle.counting.proofs.Cases.{byTest}
 use Rattle.sheets.specs.declared.Reading.{Reading}
 use Rattle.sheets.specs.Refusals.{Test, _when_, firstFault}
 use Rattle.openings.specs.declared.Refusal.{Refusal}
-use Rattle.openings.specs.Said.{Said, done, refused, refusalSays, Outcome}
+use Rattle.openings.specs.Said.{Said, done, refused, refusalSays, afterwards}
 use Rattle.openings.specs.Refusals.{callRefusal, unlessSheet, unlessFault}
 
 -- ---- a single row of the table
@@ -53,6 +53,21 @@ module _ {next : Said} {values : List ℕ} where
   unfolding unlessFault
   fault-through tests q = byTest (eqb (firstFault tests) 0) (λ t. (eqb-true (firstFault tests) 0 t, rw t at q)) (λ t. absurd (never-both (rw t at q)))
 
--- ---- an outcome by its parts
-pub parts : {o : Outcome} (outcome : Outcome) → o ≡ outcome → (o .says ≡ outcome .says) × (o .later ≡ outcome .later)
-parts outcome e = (ap (λ (p : Outcome). p .says) e, ap (λ (p : Outcome). p .later) e)
+pub same-value : {m n : ℕ} → done (m ∷ []) ≡ done (n ∷ []) → m ≡ n
+same-value q = cc
+
+-- ---- a call that writes: refused, and the buffer stays; or it did its work, and the buffer holds what was to be written
+module _ {said : Said} (held written : List ℕ) where
+  pub left-held : {number sheet place flag : ℕ} → refused number sheet place flag ≡ said → afterwards said held written ≡ held
+  unfolding afterwards
+  left-held q = ap (λ (s : Said). afterwards s held written) (sym q)
+
+  pub left-written : {values : List ℕ} → done values ≡ said → afterwards said held written ≡ written
+  unfolding afterwards
+  left-written q = ap (λ (s : Said). afterwards s held written) (sym q)
+
+  pub writes-not : (f : Refusal) → refusalSays f ≡ said → (refusalSays f ≡ said) × (held ≡ afterwards said held written)
+  writes-not f q = (q, sym (left-held q))
+
+  pub writes : {values later : List ℕ} → done values ≡ said → later ≡ written → (done values ≡ said) × (later ≡ afterwards said held written)
+  writes q e = (q, e ∙ sym (left-written q))

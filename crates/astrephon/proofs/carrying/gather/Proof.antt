@@ -1,6 +1,5 @@
 -- `gather` meets its contract. Assumes nothing.
 use mathlib.Core.Path.{refl}
-use Rattle.openings.proofs.Orders.{parts}
 use Rattle.astrephon.proofs.Transfers.{carry-asks, gathered-closed, gathered-done}
 use borrow.Author.Needs.{needs}
 use Rattle.astrephon.proofs.carrying.gather.Statement.{statement}
@@ -13,19 +12,19 @@ open-buffers-requires : tie.Need-open-buffers-requires
 open-buffers-requires c κs = search needs
 
 returns : tie.Need-returns
-returns c = let o = c .before .before .before .before .open-buffers in parts _ (gathered-closed _ _ _ _ _ _ (o .result) _ (o .ensures .1) (o .ensures .0) (c .if1 .taken))
+returns c = gathered-closed _ _ _ _ _ _ (c .before .before .before .before .open-buffers .ensures) (c .if1 .taken)
 
 slice-aggregate-gather : tie.Need-slice-aggregate-gather
 slice-aggregate-gather c = search needs
 
 gather-requires : tie.Need-gather-requires
-gather-requires c κs = let o = c .before .before .before .before .before .before .open-buffers in carry-asks _ _ _ _ _ _ (o .result) _ (o .ensures .0) (o .ensures .1) (c .before .before .if1 .left) _ refl refl
+gather-requires c κs = carry-asks _ _ _ _ _ _ (c .before .before .before .before .before .before .open-buffers .ensures) (c .before .before .if1 .left) _ refl refl
 
 same-length : tie.Need-same-length
 same-length c = search needs
 
 returns-2 : tie.Need-returns-2
-returns-2 c = let o = c .before .before .before .before .before .before .before .before .before .open-buffers in parts _ (gathered-done _ _ _ _ _ _ (o .result) _ (o .ensures .1) (o .ensures .0) (c .before .before .before .before .before .if1 .left) _ (c .before .before .gather .ensures))
+returns-2 c = gathered-done _ _ _ _ _ _ (c .before .before .before .before .before .before .before .before .before .open-buffers .ensures) (c .before .before .before .before .before .if1 .left) _ (c .before .before .gather .ensures)
 
 pub gather-spec : {M : Type 1} → statement M
 gather-spec =

@@ -1,5 +1,5 @@
 -- `packed_len` meets its contract. Assumes nothing.
-use Rattle.openings.proofs.WindowOpens.{windowed}
+use Rattle.openings.proofs.Opens.{windowed}
 use Rattle.astrephon.proofs.Transfers.{measured-closed, measured-done}
 use borrow.Author.Needs.{needs}
 use Rattle.astrephon.proofs.carrying.packed_len.Statement.{statement}
@@ -12,16 +12,16 @@ open-window-requires : tie.Need-open-window-requires
 open-window-requires c κs = search needs
 
 returns : tie.Need-returns
-returns c = let o = c .before .before .before .before .open-window in measured-closed _ _ _ _ (o .result) _ (o .ensures .0) (o .ensures .1) (c .if1 .taken)
+returns c = measured-closed _ _ _ _ (c .before .before .before .before .open-window .ensures) (c .if1 .taken)
 
 slice-aggregate-count : tie.Need-slice-aggregate-count
 slice-aggregate-count c = search needs
 
 count-requires : tie.Need-count-requires
-count-requires c κs = let o = c .before .before .before .before .before .open-window in let W = windowed _ _ _ _ (o .result) _ (o .ensures .0) (o .ensures .1) (c .before .if1 .left) in (W .opened .ok, W .forward)
+count-requires c κs = let W = windowed _ _ _ _ (c .before .before .before .before .before .open-window .ensures) (c .before .if1 .left) in (W .opened .ok, W .forward)
 
 returns-2 : tie.Need-returns-2
-returns-2 c = let o = c .before .before .before .before .before .before .open-window in measured-done _ _ _ _ (o .result) _ (o .ensures .0) (o .ensures .1) (c .before .before .if1 .left) _ (c .count .ensures)
+returns-2 c = measured-done _ _ _ _ (c .before .before .before .before .before .before .open-window .ensures) (c .before .before .if1 .left) _ (c .count .ensures)
 
 pub packed-len-spec : {M : Type 1} → statement M
 packed-len-spec =

@@ -1,6 +1,5 @@
 -- `scatter` meets its contract. Assumes nothing.
 use mathlib.Core.Path.{refl}
-use Rattle.openings.proofs.Orders.{parts}
 use Rattle.astrephon.proofs.Transfers.{carry-asks, scattered-closed, scattered-done}
 use borrow.Author.Needs.{needs}
 use Rattle.astrephon.proofs.carrying.scatter.Statement.{statement}
@@ -13,19 +12,19 @@ open-buffers-requires : tie.Need-open-buffers-requires
 open-buffers-requires c κs = search needs
 
 returns : tie.Need-returns
-returns c = let o = c .before .before .before .before .open-buffers in parts _ (scattered-closed _ _ _ _ _ _ (o .result) _ (o .ensures .1) (o .ensures .0) (c .if1 .taken))
+returns c = scattered-closed _ _ _ _ _ _ (c .before .before .before .before .open-buffers .ensures) (c .if1 .taken)
 
 slice-aggregate-scatter : tie.Need-slice-aggregate-scatter
 slice-aggregate-scatter c = search needs
 
 scatter-requires : tie.Need-scatter-requires
-scatter-requires c κs = let o = c .before .before .before .before .before .before .open-buffers in carry-asks _ _ _ _ _ _ (o .result) _ (o .ensures .0) (o .ensures .1) (c .before .before .if1 .left) _ refl refl
+scatter-requires c κs = carry-asks _ _ _ _ _ _ (c .before .before .before .before .before .before .open-buffers .ensures) (c .before .before .if1 .left) _ refl refl
 
 same-length : tie.Need-same-length
 same-length c = search needs
 
 returns-2 : tie.Need-returns-2
-returns-2 c = let o = c .before .before .before .before .before .before .before .before .before .open-buffers in parts _ (scattered-done _ _ _ _ _ _ (o .result) _ (o .ensures .1) (o .ensures .0) (c .before .before .before .before .before .if1 .left) _ (c .before .before .scatter .ensures))
+returns-2 c = scattered-done _ _ _ _ _ _ (c .before .before .before .before .before .before .before .before .before .open-buffers .ensures) (c .before .before .before .before .before .if1 .left) _ (c .before .before .scatter .ensures)
 
 pub scatter-spec : {M : Type 1} → statement M
 scatter-spec =

@@ -1,7 +1,7 @@
 -- `list_sheet` meets its contract. Assumes nothing.
 use native.Mathlib.Omega.{arith}
-use borrow.Author.Needs.{needs}
 use Rattle.astrephon.proofs.Texts.{written-refused, written-done}
+use borrow.Author.Needs.{needs}
 use Rattle.astrephon.proofs.listing.list_sheet.Statement.{statement}
 use Rattle.astrephon.proofs.listing.list_sheet.Tie as tie
 

@@ -1,13 +1,9 @@
 -- `exact` meets its contract. Assumes nothing.
-use Rattle.sheets.specs.Sheet.{readSheet}
-use Rattle.openings.proofs.Opens.{Opened, opened-is}
+use Rattle.openings.proofs.Opens.{opened}
 use Rattle.astrephon.proofs.Mappings.{exact-closed, exact-fault, exact-foreign, exact-at}
 use borrow.Author.Needs.{needs}
 use Rattle.astrephon.proofs.mapping.exact.Statement.{statement}
 use Rattle.astrephon.proofs.mapping.exact.Tie as tie
-
-opened : (c : tie.Else1) → let o = c .before .before .before .before .before .open-element in Opened (readSheet (c .before .before .before .before .before .before .before .before .args .sheet .now)) (c .before .before .before .before .before .before .before .before .args .element) (o .result .selection) (o .last .1 .1 .1 .0)
-opened c = let o = c .before .before .before .before .before .open-element in opened-is 1 _ _ (o .result) _ (o .ensures .0) (o .ensures .1) (c .if1 .left)
 
 slice-aggregate-open-element : tie.Need-slice-aggregate-open-element
 slice-aggregate-open-element c = search needs
@@ -16,7 +12,7 @@ open-element-requires : tie.Need-open-element-requires
 open-element-requires c κs = search needs
 
 returns : tie.Need-returns
-returns c = let o = c .before .before .before .before .before .open-element in exact-closed _ _ (o .result) (o .ensures .0) (c .if1 .taken) _
+returns c = exact-closed (c .before .before .before .before .before .open-element .ensures) (c .if1 .taken) _
 
 offset-fault-requires : tie.Need-offset-fault-requires
 offset-fault-requires c κs = search needs
@@ -25,28 +21,28 @@ call-refusal-requires : tie.Need-call-refusal-requires
 call-refusal-requires c κs = search needs
 
 returns-2 : tie.Need-returns-2
-returns-2 c = exact-fault (opened (c .before .before .before)) _ _ (c .before .before .offset-fault .ensures) _ (c .call-refusal .ensures) (c .before .if2 .taken)
+returns-2 c = exact-fault (opened _ _ (c .before .before .before .before .before .before .before .before .open-element .ensures) (c .before .before .before .if1 .left)) _ _ (c .before .before .offset-fault .ensures) _ (c .call-refusal .ensures) (c .before .if2 .taken)
 
 slice-aggregate-belongs-to : tie.Need-slice-aggregate-belongs-to
 slice-aggregate-belongs-to c = search needs
 
 belongs-to-requires : tie.Need-belongs-to-requires
-belongs-to-requires c κs = opened (c .before .before .before) .ok
+belongs-to-requires c κs = opened _ _ (c .before .before .before .before .before .before .before .before .open-element .ensures) (c .before .before .before .if1 .left) .ok
 
 call-refusal-requires-2 : tie.Need-call-refusal-requires-2
 call-refusal-requires-2 c κs = search needs
 
 returns-3 : tie.Need-returns-3
-returns-3 c = exact-foreign (opened (c .before .before .before .before .before .before)) _ _ (c .before .before .before .before .before .offset-fault .ensures) (c .before .before .before .before .if2 .left) _ (c .before .before .belongs-to .ensures) _ (c .call-refusal2 .ensures) (c .before .if3 .taken)
+returns-3 c = exact-foreign (opened _ _ (c .before .before .before .before .before .before .before .before .before .before .before .open-element .ensures) (c .before .before .before .before .before .before .if1 .left)) _ _ (c .before .before .before .before .before .offset-fault .ensures) (c .before .before .before .before .if2 .left) _ (c .before .before .belongs-to .ensures) _ (c .call-refusal2 .ensures) (c .before .if3 .taken)
 
 slice-aggregate-file-rank : tie.Need-slice-aggregate-file-rank
 slice-aggregate-file-rank c = search needs
 
 file-rank-requires : tie.Need-file-rank-requires
-file-rank-requires c κs = opened (c .before .before .before .before .before .before) .ok
+file-rank-requires c κs = opened _ _ (c .before .before .before .before .before .before .before .before .before .before .before .open-element .ensures) (c .before .before .before .before .before .before .if1 .left) .ok
 
 returns-4 : tie.Need-returns-4
-returns-4 c = exact-at (opened (c .before .before .before .before .before .before .before)) _ _ (c .before .before .before .before .before .before .offset-fault .ensures) (c .before .before .before .before .before .if2 .left) _ (c .before .before .before .belongs-to .ensures) _ (c .file-rank .ensures) (c .before .before .if3 .left)
+returns-4 c = exact-at (opened _ _ (c .before .before .before .before .before .before .before .before .before .before .before .before .open-element .ensures) (c .before .before .before .before .before .before .before .if1 .left)) _ _ (c .before .before .before .before .before .before .offset-fault .ensures) (c .before .before .before .before .before .if2 .left) _ (c .before .before .before .belongs-to .ensures) _ (c .file-rank .ensures) (c .before .before .if3 .left)
 
 pub exact-spec : {M : Type 1} → statement M
 exact-spec =
