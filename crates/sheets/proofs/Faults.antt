@@ -65,10 +65,13 @@ module _ (xs : List ℕ) (kind at : ℕ) (ts : List Test) where
   headed-skip h H =
       rw (le-ltb (length xs) (at + 4) (omega (arith, H .inside)), same-not _ _ (H .kind-is), same-not _ _ (H .length-is), le-ltb (length xs) (at + 2 + lengthOf kind) (H .inside))
 
--- .. so the record of a kind is there to its end
-pub kind-inside : (xs : List ℕ) (kind at expected k : ℕ) → k ≡ firstFault (headTests xs kind at) → k ≡ 0 → kind ≡ expected → at + 2 + lengthOf expected ≤ length xs
+-- .. so the kind that stands there is due, and the record is there to its end
+pub head-done : (xs : List ℕ) (due at kind k : ℕ) → k ≡ firstFault (headTests xs due at) → k ≡ 0 → le16 xs (at + 2) ≡ kind → (due ≡ kind) × (at + 2 + lengthOf kind ≤ length xs)
 unfolding headTests
-kind-inside xs kind at expected k e z q = rw q at (head-taken xs kind at [] (sym e ∙ z) .0 .inside)
+head-done xs due at kind k e z q =
+    let H = head-taken xs due at [] (sym e ∙ z) .0 in
+    let is-due : due ≡ kind = sym (H .kind-is) ∙ q in
+    (is-due, rw is-due at (H .inside))
 
 -- ---- a header: 1 to 16 elements
 module _ (levels : ℕ) (m : Limits) (xs : List ℕ) (at : ℕ) where

@@ -29,10 +29,6 @@ module _ (kind : ℕ) where
   unfolding lengthOf
   family-length e = rw e
 
-  pub unknown-length : (kind ≡ 1 → ⊥) → (kind ≡ 2 → ⊥) → (kind ≡ 3 → ⊥) → lengthOf kind ≡ 0
-  unfolding lengthOf
-  unknown-length a b c = rw (ne-eqb _ _ a, ne-eqb _ _ b, ne-eqb _ _ c)
-
 -- ---- up to the body
 module _ (xs : List ℕ) (kind at : ℕ) where
   pub head-short : length xs < at + 4 → 1 ≡ firstFault (headTests xs kind at)
@@ -80,6 +76,11 @@ module _ (levels : ℕ) (m : Limits) (xs : List ℕ) (kind at : ℕ) where
   pub record-body : (k : ℕ) → k ≡ firstFault (headTests xs kind at) → k ≡ 0 → (b : ℕ) → b ≡ firstFault (bodyTests levels m xs kind at) → b ≡ fault levels m xs kind at
   record-body k e z b q = q ∙ sym (record-fault ∙ rw (← e, eq-eqb k 0 z) refl)
 
+  -- an unknown kind is not the kind that is due
+  pub record-unknown : (found : ℕ) → 1 ≤ kind → kind ≤ 3 → at + 4 ≤ length xs → found ≡ le16 xs (at + 2) → (found ≡ 1 → ⊥) → (found ≡ 2 → ⊥) → (found ≡ 3 → ⊥)
+      → 2 ≡ fault levels m xs kind at
+  record-unknown found least most start is a b c = record-head 2 (head-kind xs kind at start (λ e. omega arith)) (λ e. omega arith)
+
   -- the kind picks the body's tests
   pub body-header : kind ≡ 1 → firstFault (headerTests xs at) ≡ firstFault (bodyTests levels m xs kind at)
   unfolding bodyTests
@@ -92,10 +93,6 @@ module _ (levels : ℕ) (m : Limits) (xs : List ℕ) (kind at : ℕ) where
   pub body-family : kind ≡ 3 → firstFault (familyTests levels m (familyRecord xs at)) ≡ firstFault (bodyTests levels m xs kind at)
   unfolding bodyTests
   body-family e = rw e
-
-  pub body-unknown : (kind ≡ 1 → ⊥) → (kind ≡ 2 → ⊥) → (kind ≡ 3 → ⊥) → 2 ≡ firstFault (bodyTests levels m xs kind at)
-  unfolding bodyTests firstFault
-  body-unknown a b c = rw (ne-eqb _ _ a, ne-eqb _ _ b, ne-eqb _ _ c)
 
 -- ---- the counts
 module _ (xs : List ℕ) (at : ℕ) where

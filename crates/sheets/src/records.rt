@@ -3,6 +3,7 @@ ghost use mathlib.Core.Path.{_≡_};
 ghost use Prim.Native.Nat.{_+_, _^_, _≤_, _<_};
 ghost use lib.ListN.{length};
 ghost use Rattle.sheets.specs.Refusals.{firstFault};
+ghost use Rattle.sheets.specs.Bytes.{le16};
 ghost use Rattle.sheets.specs.Records.{lengthOf, headTests, headerTests, elementTests, familyTests, familyRecord, badSegment, lastOf, fault};
 use crate::digits;
 use families::Family;
@@ -21,35 +22,18 @@ pub struct Limits {
     pub room: u32,
 }
 
-// The length that a record of the kind states; 0 for an unknown kind.
-pub fn length_of(kind: u32) -> u32
-    ensures { λ r. ⌜ (r ≡ lengthOf kind) × (r ≤ 20) ⌝ }
+// The first fault of a record before those of its body: another kind is due, its length is not `long`, which is its kind's, or its body is cut.
+pub fn head_fault(sheet: &[u8], at: usize, kind: u32, due: u32, long: u32) -> u8
+    requires { ⌜ at + 4 ≤ length (now sheet) ⌝ ∗ ⌜ kind ≡ le16 (now sheet) (at + 2) ⌝ ∗ ⌜ long ≡ lengthOf kind ⌝ }
+    ensures { λ r. ⌜ r ≡ firstFault (headTests (now (sheet .entry)) due at) ⌝ }
 {
-    match kind {
-        HEADER => 8,
-        ELEMENT => 4,
-        FAMILY => 20,
-        0 | 4.. => 0,
-    }
-}
-
-// The first fault of a record up to its body, where one of the kind is expected.
-pub fn head_fault(sheet: &[u8], kind: u32, at: usize) -> u8
-    requires { ⌜ at ≤ length (now sheet) ⌝ }
-    ensures { λ r. ⌜ r ≡ firstFault (headTests (now (sheet .entry)) kind at) ⌝ }
-{
-    let left = sheet.len() - at;
-    if left < 4 {
-        return crate::SHORT;
-    }
-    if digits::le16_at(sheet, at + 2) != kind {
+    if kind != due {
         return crate::KIND;
     }
-    let length = length_of(kind);
-    if digits::le16_at(sheet, at) != length {
+    if digits::le16_at(sheet, at) != long {
         return crate::LENGTH;
     }
-    if left < 2 + length as usize {
+    if sheet.len() - at < 2 + long as usize {
         return crate::SHORT;
     }
     0
@@ -150,19 +134,38 @@ pub fn family_fault(f: Family, levels: u32, limits: Limits) -> u8
     0
 }
 
-// The first fault of the record at `at`, where one of the kind is expected; 0 where there is none.
-pub fn record_fault(sheet: &[u8], kind: u32, at: usize, levels: u32, limits: Limits) -> u8
-    requires { ⌜ at ≤ length (now sheet) ⌝ }
-    ensures { λ r. ⌜ r ≡ fault levels limits (now (sheet .entry)) kind at ⌝ }
+// The first fault of the record at `at`, where one of the kind `due` is due; 0 where there is none. The kind that the record has picks its length, its
+// body and its checks. 02 adds an arm for kind 4, the compact family; its views, kinds 16 to 18, get a match of their own, over `head_fault` too.
+pub fn record_fault(sheet: &[u8], due: u32, at: usize, levels: u32, limits: Limits) -> u8
+    requires { ⌜ at ≤ length (now sheet) ⌝ ∗ ⌜ 1 ≤ due ⌝ ∗ ⌜ due ≤ 3 ⌝ }
+    ensures { λ r. ⌜ r ≡ fault levels limits (now (sheet .entry)) due at ⌝ }
 {
-    let head = head_fault(sheet, kind, at);
-    if head != 0 {
-        return head;
+    if sheet.len() - at < 4 {
+        return crate::SHORT;
     }
+    let kind = digits::le16_at(sheet, at + 2);
     match kind {
-        HEADER => header_fault(sheet, at),
-        ELEMENT => element_fault(sheet, at),
-        FAMILY => family_fault(family_record(sheet, at), levels, limits),
+        HEADER => {
+            let head = head_fault(sheet, at, kind, due, 8);
+            if head != 0 {
+                return head;
+            }
+            header_fault(sheet, at)
+        }
+        ELEMENT => {
+            let head = head_fault(sheet, at, kind, due, 4);
+            if head != 0 {
+                return head;
+            }
+            element_fault(sheet, at)
+        }
+        FAMILY => {
+            let head = head_fault(sheet, at, kind, due, 20);
+            if head != 0 {
+                return head;
+            }
+            family_fault(family_record(sheet, at), levels, limits)
+        }
         0 | 4.. => crate::KIND,
     }
 }
