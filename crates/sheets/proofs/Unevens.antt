@@ -7,7 +7,7 @@ use Prim.Native.Nat.{ℕ, _+_, _-_, _≤_, _<_}
 use native.Mathlib.Nat.{zero-add}
 use native.Mathlib.Omega.{arith}
 use lib.Dec.{eqb}
-use lib.ListN.{length, getD, length-map, List·getD-eq-default}
+use lib.ListN.{length, replicate, getD, length-map, length-replicate, List·getD-eq-default}
 use borrow.Author.Tests.{eq-eqb, ne-eqb, eqb-true, eqb-false, lt-ltb, le-ltb}
 use Rattle.counting.specs.Gather.{tabulated}
 use Rattle.counting.specs.Elements.{times}
@@ -140,7 +140,7 @@ module _ {Fs : List Forest} {table : List ℕ} {size place : ℕ} (S : Searched 
   unfolding flagAt
   found-none h = answer-is NO-FLAG (rw (le-ltb place (sizes Fs) (omega (arith, S .whole))) refl)
 
--- ---- a table of m places does where the elements end at `end`, no later than the table
+-- ---- a fresh table of m places does where the elements end at `end`, no later than the table
 pub room-enough : {t : Layout} {size end : ℕ} (m : ℕ) → 1 ≤ end → end ≤ m → Layout·ok 4 (end - 1) t → size ≡ sizes (treesOf 4 t)
-    → (0 < m) × (Layout·ok 4 (m - 1) t × (size ≡ sizes (treesOf 4 t)))
-room-enough {t} {size} {end} m some most ok e = (omega arith, (ok-wider 4 (end - 1) (m - 1) t (omega arith) ok, e))
+    → let table : List ℕ = replicate m 0 in (table ≡ replicate (length table) 0) × ((0 < length table) × (Layout·ok 4 (length table - 1) t × (size ≡ sizes (treesOf 4 t))))
+room-enough {t} {size} {end} m some most ok e = rw (length-replicate {A = ℕ} m 0) (refl, (omega arith, (ok-wider 4 (end - 1) (m - 1) t (omega arith) ok, e)))

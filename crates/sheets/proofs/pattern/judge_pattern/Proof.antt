@@ -1,5 +1,4 @@
 -- `judge_pattern` meets its contract: either table has a place for every offset that an element can have. Assumes nothing.
-use mathlib.Core.Path.{refl}
 use native.Mathlib.Omega.{arith}
 use borrow.Author.Needs.{needs}
 use Rattle.sheets.proofs.Unevens.{room-enough}
@@ -12,7 +11,7 @@ slice-aggregate-first-uneven c = search needs
 first-uneven-requires : tie.Need-first-uneven-requires
 first-uneven-requires c κs =
     let asked = c .before .before .before .pre in
-    (asked .0, (refl, room-enough 2048 (asked .1 .0) (omega arith) (asked .1 .1 .1 .0) (asked .1 .1 .1 .1)))
+    (asked .0, room-enough 2048 (asked .1 .0) (omega arith) (asked .1 .1 .1 .0) (asked .1 .1 .1 .1))
 
 returns : tie.Need-returns
 returns c = search needs
@@ -23,7 +22,7 @@ slice-aggregate-first-uneven-2 c = search needs
 first-uneven-requires-2 : tie.Need-first-uneven-requires-2
 first-uneven-requires-2 c κs =
     let asked = c .before .before .before .pre in
-    (asked .0, (refl, room-enough 65536 (asked .1 .0) (asked .1 .1 .0) (asked .1 .1 .1 .0) (asked .1 .1 .1 .1)))
+    (asked .0, room-enough 65536 (asked .1 .0) (asked .1 .1 .0) (asked .1 .1 .1 .0) (asked .1 .1 .1 .1))
 
 returns-2 : tie.Need-returns-2
 returns-2 c = search needs
