@@ -13,7 +13,7 @@ use Rattle.sheets.specs.Records.{familyRecord, fault}
 use Rattle.sheets.specs.Sheet.{within, beside, siblingsFrom, forestFrom}
 use Rattle.sheets.specs.Steps.{stepOf, Written}
 use Rattle.sheets.proofs.Shapes.{nodeAt}
-use Rattle.sheets.proofs.Numbered.{Numbered}
+use Rattle.sheets.proofs.Numbered.{Numbered, listed-some}
 
 -- ---- one step of the reader
 pub unless-fault : {A : Type 0} (k place : ℕ) (next : Read A) → (k ≡ 0 → ⊥) → unless k place next ≡ refused k place
@@ -76,7 +76,7 @@ pub record StepGot (at from : ℕ) (r : Step) (R : Read Forest) : Type 0 where
 pub step-got : (at from : ℕ) (r : Step) (R : Read Forest) → Numbered R → r ≡ stepOf at from R → r .number ≡ 0 → StepGot at from r R
 unfolding Numbered stepOf
 step-got at from r (got F) h e z = record { forest = F; is = refl; place = ap (λ (s : Step). s .place) e; end = ap (λ (s : Step). s .end) e }
-step-got at from r (refused k p) h e z = absurd (omega (arith, h, z, ap (λ (s : Step). s .number) e))
+step-got at from r (refused k p) h e z = absurd (omega (arith, listed-some k h, z, ap (λ (s : Step). s .number) e))
 
 pub record StepRefused (r : Step) (R : Read Forest) : Type 0 where
   pub number : ℕ

@@ -15,7 +15,7 @@ use Rattle.sheets.specs.Records.{lengthOf, fault}
 use Rattle.sheets.specs.Sheet.{top, endOfRecords, elementsFrom, elementsOf}
 use Rattle.sheets.specs.Steps.{Progressed}
 use Rattle.sheets.proofs.Faults.{header-taken}
-use Rattle.sheets.proofs.Numbered.{Numbered}
+use Rattle.sheets.proofs.Numbered.{Numbered, listed-some}
 use Rattle.sheets.proofs.Descent.{unless-fault, first-refused, first-got}
 
 -- ---- the header
@@ -60,7 +60,7 @@ pub record ProgressGot (p r : Progress) (R : Read (List Forest)) : Type 0 where
 pub progress-got : (p r : Progress) (R : Read (List Forest)) → Numbered R → Progressed R p r → r .number ≡ 0 → ProgressGot p r R
 unfolding Numbered Progressed
 progress-got p r (got Fs) h e z = record { elements = Fs; is = refl; place = ap (λ (s : Progress). s .place) e; progress = e }
-progress-got p r (refused k q) h e z = absurd (omega (arith, h, z, e .0))
+progress-got p r (refused k q) h e z = absurd (omega (arith, listed-some k h, z, e .0))
 
 pub progress-refused : (p r : Progress) (R : Read (List Forest)) → p .number ≡ 0 → Progressed R p r → (r .number ≡ 0 → ⊥) → R ≡ refused (r .number) (r .place)
 unfolding Progressed

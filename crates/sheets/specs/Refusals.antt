@@ -1,7 +1,8 @@
 -- The refusals of a sheet: 01's table, in its order. Assumes nothing: these are definitions.
-use mathlib.Core.Bool.{Bool, cond}
+use mathlib.Core.Bool.{Bool, false, _||_, cond}
 use mathlib.Core.List.{List, [], _∷_}
 use Prim.Native.Nat.{ℕ, zero, suc}
+use lib.Dec.{eqb}
 
 abbrev pub SHORT : ℕ
 SHORT = 1
@@ -35,6 +36,14 @@ TRAILING = 10
 
 abbrev pub HOLE-OR-OVERLAP : ℕ
 HOLE-OR-OVERLAP = 11
+
+-- the numbers that name a record, or what follows the last one; and whether n is one of a list
+abbrev pub recordNumbers : List ℕ
+recordNumbers = SHORT ∷ KIND ∷ LENGTH ∷ COUNT ∷ MANY ∷ SEGMENT ∷ SPAN ∷ ORDER ∷ DEPTH ∷ TRAILING ∷ []
+
+unfoldable pub oneOf : ℕ → List ℕ → Bool
+oneOf n [] = false
+oneOf n (k ∷ ks) = eqb n k || oneOf n ks
 
 -- the flag that number 11 carries
 abbrev pub NO-FLAG : ℕ
