@@ -7,3 +7,5 @@ pub mod TrayMoves
 pub mod Texts
 pub mod Accepting
 pub mod Contracts
+pub mod Saying
+pub mod Unique
