@@ -9,3 +9,4 @@ pub mod Accepting
 pub mod Contracts
 pub mod Saying
 pub mod Unique
+pub mod Refusing

@@ -4,3 +4,4 @@ pub mod Faults
 pub mod Opens
 pub mod ElementOpens
 pub mod PairOpens
+pub mod Tabled

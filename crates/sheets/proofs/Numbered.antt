@@ -22,26 +22,26 @@ unfolding oneOf
 listed-some zero e = absurd (true≢false (sym e))
 listed-some (suc k) e = omega arith
 
--- ---- THE FIRST FAULT of tests whose numbers are all of the list is 0, or one of the list
-unfoldable listed : List Test → Bool
-listed [] = true
-listed ((number when there) ∷ tests) = oneOf number recordNumbers && listed tests
+-- ---- THE FIRST FAULT of tests whose numbers are all of a list is 0, or one of the list
+unfoldable pub listed : (numbers : List ℕ) → List Test → Bool
+listed numbers [] = true
+listed numbers ((number when there) ∷ tests) = oneOf number numbers && listed numbers tests
 
-abbrev FaultNumber : ℕ → Type 0
-FaultNumber k = (k ≡ 0) ⊎ (oneOf k recordNumbers ≡ true)
+abbrev pub FaultOf : (numbers : List ℕ) → ℕ → Type 0
+FaultOf numbers k = (k ≡ 0) ⊎ (oneOf k numbers ≡ true)
 
 both : (a b : Bool) → (a && b) ≡ true → (a ≡ true) × (b ≡ true)
 both true b e = (refl, e)
 both false b e = absurd (true≢false (sym e))
 
-first-listed : (tests : List Test) → listed tests ≡ true → FaultNumber (firstFault tests)
+pub first-listed : (numbers : List ℕ) (tests : List Test) → listed numbers tests ≡ true → FaultOf numbers (firstFault tests)
 unfolding listed firstFault
-first-listed [] h = inl refl
-first-listed ((number when true) ∷ tests) h = inr (both (oneOf number recordNumbers) (listed tests) h .0)
-first-listed ((number when false) ∷ tests) h = first-listed tests (both (oneOf number recordNumbers) (listed tests) h .1)
+first-listed numbers [] h = inl refl
+first-listed numbers ((number when true) ∷ tests) h = inr (both (oneOf number numbers) (listed numbers tests) h .0)
+first-listed numbers ((number when false) ∷ tests) h = first-listed numbers tests (both (oneOf number numbers) (listed numbers tests) h .1)
 
 -- .. and so is a record's fault
-body-listed : (levels : ℕ) (m : Limits) (xs : List ℕ) (kind at : ℕ) → listed (bodyTests levels m xs kind at) ≡ true
+body-listed : (levels : ℕ) (m : Limits) (xs : List ℕ) (kind at : ℕ) → listed recordNumbers (bodyTests levels m xs kind at) ≡ true
 unfolding listed oneOf bodyTests headerTests elementTests familyTests
 body-listed levels m xs kind at = byTest (eqb kind 1)
     (λ header. rw header)
@@ -49,9 +49,9 @@ body-listed levels m xs kind at = byTest (eqb kind 1)
     (λ element. rw (e, element))
     (λ f. byTest (eqb kind 3) (λ family. rw (e, f, family)) (λ unknown. rw (e, f, unknown))))
 
-fault-listed : (levels : ℕ) (m : Limits) (xs : List ℕ) (kind at : ℕ) → FaultNumber (fault levels m xs kind at)
+fault-listed : (levels : ℕ) (m : Limits) (xs : List ℕ) (kind at : ℕ) → FaultOf recordNumbers (fault levels m xs kind at)
 unfolding listed oneOf fault headTests
-fault-listed levels m xs kind at = first-listed (headTests xs kind at ++ bodyTests levels m xs kind at) (body-listed levels m xs kind at)
+fault-listed levels m xs kind at = first-listed recordNumbers (headTests xs kind at ++ bodyTests levels m xs kind at) (body-listed levels m xs kind at)
 
 -- ---- A REFUSAL has a number of the list: kept by each step
 unfoldable pub Numbered : {A : Type 0} → Read A → Type 0
@@ -62,7 +62,7 @@ got-numbered : {A : Type 0} (thing : A) → Numbered (got thing)
 unfolding Numbered
 got-numbered thing = tt
 
-unless-numbered : {A : Type 0} (k place : ℕ) (next : Read A) → FaultNumber k → Numbered next → Numbered (unless k place next)
+unless-numbered : {A : Type 0} (k place : ℕ) (next : Read A) → FaultOf recordNumbers k → Numbered next → Numbered (unless k place next)
 unfolding Numbered unless
 unless-numbered zero place next f h = h
 unless-numbered (suc k) place next (inl e) h = absurd (omega arith)
@@ -98,7 +98,7 @@ pub sheet-numbered : (xs : List ℕ) → Numbered (elementsOf xs)
 unfolding elementsOf listed oneOf
 sheet-numbered xs =
     unless-numbered _ _ _ (fault-listed 4 _ xs _ 0)
-    (then-numbered _ _ (elements-numbered xs _ _ _) (λ Fs. unless-numbered _ _ _ (first-listed _ refl) (got-numbered _)))
+    (then-numbered _ _ (elements-numbered xs _ _ _) (λ Fs. unless-numbered _ _ _ (first-listed recordNumbers _ refl) (got-numbered _)))
 
 pub refused-number : (xs : List ℕ) (number place : ℕ) → elementsOf xs ≡ refused number place → 1 ≤ number
 unfolding Numbered
