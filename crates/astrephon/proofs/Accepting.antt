@@ -44,9 +44,9 @@ module _ {a b : ℕ} (W : Forward a b) where
         writes held _ (fault-passed _ _ 0 (buffer-fine (length held) (b - a) (length packed) (packedLength r e a b) long count) refl ∙ window-on there _) refl
 
     -- an element that is not there: nothing is written
-    pub scatter-stays : r .layout .elements ≤ e → (packed held : List ℕ) → scatteredCall xs e a b packed held .later ≡ held
+    pub scatter-absent : r .layout .elements ≤ e → (packed held : List ℕ) → scatteredCall xs e a b packed held .later ≡ held
     unfolding scatteredOf
-    scatter-stays none packed held =
+    scatter-absent none packed held =
         left-held held _
         (fault-refused _ (elementTest r e ∷ []) ELEMENT (row-there ELEMENT _ (le-leb _ _ none)) (callRefusal ELEMENT 0) refl (λ z. absurd (omega arith)) ∙ sheet-passed _ 1 r (X .fine))
 
@@ -75,7 +75,7 @@ module _ {a b : ℕ} (W : Forward a b) where
       pair-does i j first second = writes held _ (fault-passed _ _ 0 no-tray-fault refl ∙ elements-on r1 r2 i j _ (X .fine) (Y .fine) first second) refl
 
     -- an index that is none: nothing is written
-    pub pair-stays : (i j : ℕ) → ELEMENT ≡ firstFault (pairTests (r1 .layout .elements) i (r2 .layout .elements) j) → pairMovedCall xs ys i j a b t held .later ≡ held
+    pub pair-absent : (i j : ℕ) → ELEMENT ≡ firstFault (pairTests (r1 .layout .elements) i (r2 .layout .elements) j) → pairMovedCall xs ys i j a b t held .later ≡ held
     unfolding pairMovedOf
-    pair-stays i j none =
+    pair-absent i j none =
         left-held held _ (fault-refused _ _ ELEMENT none (callRefusal ELEMENT 0) refl (λ z. absurd (omega arith)) ∙ sheets-on _ r1 r2 (X .fine) (Y .fine))

@@ -5,8 +5,13 @@ pub mod Listings
 pub mod Transfers
 pub mod TrayMoves
 pub mod Texts
-pub mod Accepting
 pub mod Contracts
 pub mod Saying
 pub mod Unique
 pub mod Refusing
+pub mod Undoing
+pub mod Sequences
+pub mod Accepting
+pub mod Trays
+pub mod Chains
+pub mod Rebuilding

@@ -1,0 +1,55 @@
+-- THE TRAY OF AN ACCEPTED SHEET is its window in another order: every place holds exactly one offset's byte. Assumes nothing.
+use mathlib.Core.Bool.{Bool, false}
+use mathlib.Core.Path.{_≡_, sym, ap, _∙_}
+use mathlib.Core.List.{List, map}
+use Prim.Native.Nat.{ℕ, _+_, _≤_, _<_}
+use native.Mathlib.Omega.{arith}
+use lib.ListN.{length, List·getD-eq-default}
+use Rattle.counting.specs.Periodic.{owns}
+use Rattle.counting.specs.Elements.{Elements, element, times, Partition}
+use Rattle.counting.specs.Trays.{tray, trayPlace, inTray}
+use Rattle.counting.proofs.Gathers.{length-tabulated, tabulated-map}
+use Rattle.counting.proofs.Trays.{tray-length, tray-at, place-within, place-injective, place-surjective}
+use Rattle.families.specs.Forest.{has}
+use Rattle.families.specs.Decoded.{treeOf, selections}
+use Rattle.sheets.specs.declared.Reading.{Reading}
+use Rattle.sheets.specs.Sheet.{readSheet}
+use Rattle.sheets.proofs.Accepted.{accepted-law}
+use Rattle.openings.specs.Offsets.{offsetsOf}
+use Rattle.astrephon.specs.Moves.{layoutOf}
+use Rattle.astrephon.specs.Sequences.{Takes}
+
+layout-map : (r : Reading) → map (owns (r .layout .displacement) (r .size)) (selections 4 (r .layout)) ≡ layoutOf r
+unfolding offsetsOf selections
+layout-map r = tabulated-map (owns (r .layout .displacement) (r .size)) 0 (r .layout .elements) (λ e. has (treeOf 4 (r .layout) e))
+
+pub layout-length : (r : Reading) → length (layoutOf r) ≡ r .layout .elements
+layout-length r = length-tabulated 0 (r .layout .elements) (offsetsOf r)
+
+-- past the last element nothing passes
+pub past-none : (xs : List ℕ) (i : ℕ) → readSheet xs .layout .elements ≤ i → (x : ℕ) → element (layoutOf (readSheet xs)) i x ≡ false
+past-none xs i h x = ap (λ (p : ℕ → Bool). p x) (List·getD-eq-default (layoutOf (readSheet xs)) (λ _. false) {n = i} (omega (arith, layout-length (readSheet xs))))
+
+module _ {xs : List ℕ} {a : ℕ} (X : Takes xs a) where
+  abbrev L : Elements
+  L = layoutOf (readSheet xs)
+
+  -- the elements share every window out that starts in the sheet
+  pub shared-out : (n : ℕ) → Partition L a n
+  shared-out n x h k =
+      ap (λ (M : Elements). times M x) (sym (layout-map (readSheet xs))) ∙ accepted-law xs (X .fine) .file x (omega (arith, X .after))
+
+  module _ (n : ℕ) where
+    -- the byte of an offset stands at its place, and the tray is as long as the window
+    pub tray-long : (f : ℕ → ℕ) → length (tray L a n f) ≡ n
+    tray-long f = tray-length L a n (shared-out n) f
+
+    pub tray-holds : (f : ℕ → ℕ) (x : ℕ) → a ≤ x → x < a + n → (trayPlace L a n x < n) × (inTray L a n (tray L a n f) x ≡ f x)
+    tray-holds f x h k = (place-within L a n (shared-out n) x h k, tray-at L a n (shared-out n) f x h k)
+
+    -- EVERY PLACE holds the byte of one offset, and of no other
+    pub tray-permutes : (y : ℕ) → y < n
+        → (x : ℕ) × (a ≤ x) × (x < a + n) × (trayPlace L a n x ≡ y) × ((z : ℕ) → a ≤ z → z < a + n → trayPlace L a n z ≡ y → z ≡ x)
+    tray-permutes y h =
+        let S = place-surjective L a n (shared-out n) y h in
+        (S .0, S .1, S .2, S .3, λ z u v e. place-injective L a n (shared-out n) z (S .0) u v (S .1) (S .2) (e ∙ sym (S .3)))

@@ -1,0 +1,109 @@
+-- What the calls that map offsets have to do with each other, of their contracts: exact mapping and inverse undo each other, next mapping is the exact mapping
+-- of the next byte, and the elements share the file out. Assumes nothing.
+use mathlib.Core.Path.{_≡_, sym, ap, _∙_}
+use mathlib.Core.Bool.{true, false, not}
+use mathlib.Core.List.{List, [], _∷_}
+use Prim.Native.Nat.{ℕ, _-_, _≤_, _<_}
+use native.Mathlib.Omega.{arith}
+use lib.Dec.{leb}
+use borrow.Author.Tests.{leb-false, not-false}
+use Rattle.counting.specs.Gather.{tabulated}
+use Rattle.counting.specs.Elements.{Elements}
+use Rattle.counting.specs.Periodic.{owns}
+use Rattle.counting.proofs.Gathers.{tabulated-map}
+use Rattle.counting.proofs.Nths.{nth-found, nth-exactly}
+use Rattle.families.specs.declared.FileOffset.{FileOffset}
+use Rattle.families.specs.declared.SubfileOffset.{SubfileOffset}
+use Rattle.families.specs.Forest.{has}
+use Rattle.families.specs.Decoded.{treeOf, selections}
+use Rattle.sheets.specs.declared.Reading.{Reading}
+use Rattle.sheets.specs.Refusals.{_when_}
+use Rattle.sheets.specs.Sheet.{readSheet}
+use Rattle.sheets.proofs.Accepted.{accepted-law}
+use Rattle.sheets.proofs.Faults.{no-fault}
+use Rattle.maps.specs.Selected.{Byte, ranks}
+use Rattle.maps.proofs.BytesOf.{next-is}
+use Rattle.maps.proofs.Sharing.{ranks-sum}
+use Rattle.openings.specs.Said.{done}
+use Rattle.openings.specs.Refusals.{BEFORE, FAR, FOREIGN}
+use Rattle.openings.specs.Offsets.{LIMIT, offsetsOf, rankOf, placeOf, offsetTests}
+use Rattle.openings.proofs.Orders.{fault-through, same-value}
+use Rattle.openings.proofs.Opens.{element-through}
+use Rattle.astrephon.specs.declared.Mapped.{Mapped}
+use Rattle.astrephon.specs.declared.Mapped.the-variants as mapped
+use Rattle.astrephon.specs.declared.Located.{Located}
+use Rattle.astrephon.specs.declared.Located.the-variants as located
+use Rattle.astrephon.specs.Maps.{exactOf, nextOf, inverseOf, exactCall, inverseCall}
+use Rattle.astrephon.proofs.Contracts.{Made, Exact, Next, Inverse}
+use Rattle.astrephon.proofs.Saying.{mapped-same, located-same}
+use Rattle.astrephon.proofs.Mappings.{exact-byte, inverse-own}
+
+-- ---- where a call did its work the sheet is accepted and has the element
+record Answered (r : Reading) (e : ℕ) : Type 0 where
+  fine : r .number ≡ 0
+  there : e < r .layout .elements
+
+-- ---- what exact mapping says, next mapping, and the inverse
+module _ (r : Reading) (e : ℕ) where
+  exact-says : (x y : ℕ) → exactOf r e x ≡ done (y ∷ []) → Answered r e × Byte (offsetsOf r e) y x × (x < LIMIT)
+  unfolding exactOf
+  exact-says x y q =
+      let element = element-through r e q in
+      let offset = fault-through (offsetTests (r .layout .displacement) x) (element .2) in
+      let own = fault-through ((FOREIGN when not (offsetsOf r e x)) ∷ []) (offset .1) in
+      let near = no-fault FAR _ _ (omega arith) (no-fault BEFORE _ _ (omega arith) (offset .0) .1) in (
+        record { fine = element .0; there = element .1 },
+        (not-false (offsetsOf r e x) (no-fault FOREIGN _ _ (omega arith) (own .0) .0), same-value (own .1)),
+        omega (arith, leb-false LIMIT x (near .0)),
+      )
+
+  next-says : (x y : ℕ) → nextOf r e x ≡ done (y ∷ []) → Answered r e × (rankOf r e x ≡ y)
+  unfolding nextOf
+  next-says x y q =
+      let element = element-through r e q in
+      (record { fine = element .0; there = element .1 }, same-value (fault-through (offsetTests (r .layout .displacement) x) (element .2) .1))
+
+  inverse-says : (y x : ℕ) → inverseOf r e y ≡ done (x ∷ []) → Answered r e × Byte (offsetsOf r e) y x × (x < LIMIT)
+  unfolding inverseOf
+  inverse-says y x q =
+      let element = element-through r e q in
+      let place = fault-through ((FAR when leb LIMIT (placeOf r e y)) ∷ []) (element .2) in
+      let is : placeOf r e y ≡ x = same-value (place .1) in
+      let near : placeOf r e y < LIMIT = omega (arith, leb-false LIMIT (placeOf r e y) (no-fault FAR _ _ (omega arith) (place .0) .0)) in
+      let F = nth-found (offsetsOf r e) LIMIT y (nth-exactly (offsetsOf r e) LIMIT y .0 near) in
+      (record { fine = element .0; there = element .1 }, (ap (offsetsOf r e) (sym is) ∙ F .passes, ap (rankOf r e) (sym is) ∙ F .rank), omega (arith, is))
+
+-- ---- EXACT MAPPING AND INVERSE undo each other, where both are accepted
+module _ (xs : List ℕ) (e : ℕ) where
+  pub inverse-of : (x y : ℕ) → exactCall xs e x ≡ done (y ∷ []) → inverseCall xs e y ≡ done (x ∷ [])
+  inverse-of x y q =
+      let S = exact-says (readSheet xs) e x y q in
+      sym (inverse-own (readSheet xs) e (S .0 .fine) (S .0 .there) y x (S .1) (S .2))
+
+  exact-of : (y x : ℕ) → inverseCall xs e y ≡ done (x ∷ []) → exactCall xs e x ≡ done (y ∷ [])
+  exact-of y x q =
+      let S = inverse-says (readSheet xs) e y x q in
+      sym (exact-byte (readSheet xs) e (S .0 .fine) (S .0 .there) x y (S .1) (S .2))
+
+  module _ (m m′ : Made 1) where
+    pub exact-then-inverse : (x : FileOffset) (y : SubfileOffset) (r : Located) → Exact m xs e (x .0) (mapped.At y) → Inverse m′ xs e (y .0) r → r ≡ located.At x
+    exact-then-inverse x y r p q = located-same r (located.At x) (q ∙ inverse-of (x .0) (y .0) (sym p))
+
+    pub inverse-then-exact : (y : SubfileOffset) (x : FileOffset) (r : Mapped) → Inverse m xs e (y .0) (located.At x) → Exact m′ xs e (x .0) r → r ≡ mapped.At y
+    inverse-then-exact y x r p q = mapped-same r (mapped.At y) (q ∙ exact-of (y .0) (x .0) (sym p))
+
+    -- ---- NEXT MAPPING of x is the exact mapping of z, the element's first byte from x on
+    pub next-then-exact : (x z : ℕ) (y : SubfileOffset) (r : Mapped) → Next m xs e x (mapped.At y) → x ≤ z → z < LIMIT
+        → offsetsOf (readSheet xs) e z ≡ true → ((w : ℕ) → x ≤ w → w < z → offsetsOf (readSheet xs) e w ≡ false) → Exact m′ xs e z r → r ≡ mapped.At y
+    next-then-exact x z y r p h near own none q =
+        let S = next-says (readSheet xs) e x (y .0) (sym p) in
+        let B = next-is (offsetsOf (readSheet xs) e) x z h own none in
+        mapped-same r (mapped.At y) (q ∙ sym (exact-byte (readSheet xs) e (S .0 .fine) (S .0 .there) z (y .0) (own, B .1 ∙ S .1) near))
+
+-- ---- THE RANKS of x in all elements of an accepted sheet sum to what lies between the displacement and x
+pub ranks-share : (xs : List ℕ) (x : ℕ) → let r = readSheet xs in r .number ≡ 0 → ranks (tabulated 0 (r .layout .elements) (offsetsOf r)) x ≡ x - r .layout .displacement
+unfolding offsetsOf selections
+ranks-share xs x fine =
+    let r = readSheet xs in
+    ap (λ (L : Elements). ranks L x) (sym (tabulated-map (owns (r .layout .displacement) (r .size)) 0 (r .layout .elements) (λ e. has (treeOf 4 (r .layout) e))))
+    ∙ ranks-sum r (accepted-law xs fine) x
