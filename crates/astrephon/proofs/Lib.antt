@@ -15,3 +15,8 @@ pub mod Accepting
 pub mod Trays
 pub mod Chains
 pub mod Rebuilding
+pub mod SharedRuns
+pub mod Panel
+pub mod Samples
+pub mod TrayFigures
+pub mod Figures
