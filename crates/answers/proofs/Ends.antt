@@ -86,7 +86,7 @@ module _ (xs : List ℕ) where
     lent-length = length-take-le (length into) space into-room
 
     pub lent-room : (length (take (length into) space) ≡ length (intoOf xs))
-        × ((length (take (length into) space) ≤ 65536) × (128 + 2 * length (take (length into) space) ≤ text))
+        × ((length (take (length into) space) ≤ 65536) × (149 + 2 * length (take (length into) space) ≤ text))
     lent-room = rw (lent-length, is) (refl, (omega (arith, into-short, room .most), omega (arith, into-short, room .lined)))
 
 -- there is room for a front of what there is room for

@@ -1,14 +1,15 @@
--- The line that the program prints for layout F; a number of more than one digit; a buffer of two bytes, and one with a slot and
+-- The line of what `check` says of layout F; a number of more than one digit; a buffer of two bytes, and one with a slot and
 -- a byte behind it. Assumes nothing.
 use mathlib.Core.Path.{_≡_, refl}
 use mathlib.Core.List.{[], _∷_}
 use Rattle.sheets.specs.Bytes.{le16, le32}
 use Rattle.words.specs.Texts.{word, decimalIn, decimal}
+use Rattle.openings.specs.Said.{done}
+use Rattle.said.specs.Answers.{answerOf}
 use Rattle.answers.specs.Numbers.{le64, lowest, slotsIn, slotsOf, slotBytes, withSlots}
 use Rattle.answers.specs.Lines.{field, fields, hex, buffer, line}
 
-layout-f : line (record { number = 0; sheet = 0; place = 0; flag = 0; value = 6; value2 = 3 }) []
-    ≡ word "0 0 0 0 6 3 -\n"
+layout-f : line (answerOf (done (6 ∷ 3 ∷ 2 ∷ []))) [] ≡ word "0 0 0 0 6 3 2 -\n"
 unfolding word line fields field decimalIn buffer
 layout-f = refl
 

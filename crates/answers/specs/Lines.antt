@@ -3,15 +3,16 @@ use mathlib.Core.List.{List, [], _∷_, _++_}
 use Prim.Native.Nat.{ℕ, _+_, _*_, _/_, _%_, _≤_}
 use Rattle.io.specs.Digits.{glyph}
 use Rattle.words.specs.Texts.{decimal}
-use Rattle.answers.specs.declared.lines.Answer.{Answer}
+use Rattle.said.specs.declared.Answer.{Answer}
 
 -- a number and the space after it
 unfoldable pub field : ℕ → List ℕ
 field n = decimal n ++ (32 ∷ [])
 
--- the six numbers of an answer
+-- the seven numbers of an answer
 unfoldable pub fields : Answer → List ℕ
-fields a = field (a .number) ++ (field (a .sheet) ++ (field (a .place) ++ (field (a .flag) ++ (field (a .value) ++ field (a .value2)))))
+fields a =
+    field (a .number) ++ (field (a .sheet) ++ (field (a .place) ++ (field (a .flag) ++ (field (a .value) ++ (field (a .value2) ++ field (a .value3))))))
 
 -- bytes in lower-case hex, two digits a byte: `glyph` of `io` is a digit's character, 0 to 9 and then a to f
 unfoldable pub hex : List ℕ → List ℕ
@@ -23,7 +24,7 @@ unfoldable pub buffer : List ℕ → List ℕ
 buffer [] = 45 ∷ []
 buffer (b ∷ bs) = hex (b ∷ bs)
 
--- THE LINE: `number sheet place flag value value2 into` and a line end, where `into` is the destination buffer after the call
+-- THE LINE: `number sheet place flag value value2 value3 into` and a line end, where `into` is the destination buffer after the call
 unfoldable pub line : Answer → (into : List ℕ) → List ℕ
 line a into = fields a ++ (buffer into ++ (10 ∷ []))
 
@@ -31,4 +32,4 @@ line a into = fields a ++ (buffer into ++ (10 ∷ []))
 pub record Room (frame space text : ℕ) : Type 0 where
   pub most : frame ≤ 65532
   pub buffered : frame ≤ space
-  pub lined : 128 + 2 * frame ≤ text
+  pub lined : 149 + 2 * frame ≤ text

@@ -1,51 +1,49 @@
 // The calls that carry bytes, from a frame's source buffer into its destination buffer.
-ghost use mathlib.Core.Path.{_≡_};
 ghost use Rattle.answers.specs.Frames.{Whole};
-ghost use Rattle.answers.specs.Replies.{leaving, gatherOutcome, scatterOutcome, moveOutcome, pairMoveOutcome};
+ghost use Rattle.answers.specs.Replies.{Tells, gatherOutcome, scatterOutcome, moveOutcome, pairMoveOutcome};
 use crate::frames;
-use crate::lines::Answer;
-use crate::told;
 use astrephon::FileOffset;
+use said::Answer;
 
 pub fn gather(frame: &[u8], into: &mut [u8]) -> Answer
     requires { ⌜ Whole (now frame) ⌝ }
-    ensures { λ r. ⌜ leaving r (now (into .exit)) ≡ gatherOutcome (now (frame .entry)) (now (into .entry)) ⌝ }
+    ensures { λ r. ⌜ Tells (gatherOutcome (now (frame .entry)) (now (into .entry))) r (now (into .exit)) ⌝ }
 {
     let i = frames::number_at(frame, frames::I);
     let a = FileOffset(frames::number_at(frame, frames::A));
     let b = FileOffset(frames::number_at(frame, frames::B));
     let sheet = frames::sheet1(frame);
     let from = frames::from(frame);
-    told::of_carried(astrephon::gather(sheet, i, a, b, from, into))
+    said::of_carried(astrephon::gather(sheet, i, a, b, from, into))
 }
 
 pub fn scatter(frame: &[u8], into: &mut [u8]) -> Answer
     requires { ⌜ Whole (now frame) ⌝ }
-    ensures { λ r. ⌜ leaving r (now (into .exit)) ≡ scatterOutcome (now (frame .entry)) (now (into .entry)) ⌝ }
+    ensures { λ r. ⌜ Tells (scatterOutcome (now (frame .entry)) (now (into .entry))) r (now (into .exit)) ⌝ }
 {
     let i = frames::number_at(frame, frames::I);
     let a = FileOffset(frames::number_at(frame, frames::A));
     let b = FileOffset(frames::number_at(frame, frames::B));
     let sheet = frames::sheet1(frame);
     let from = frames::from(frame);
-    told::of_carried(astrephon::scatter(sheet, i, a, b, from, into))
+    said::of_carried(astrephon::scatter(sheet, i, a, b, from, into))
 }
 
 pub fn move_tray(frame: &[u8], into: &mut [u8]) -> Answer
     requires { ⌜ Whole (now frame) ⌝ }
-    ensures { λ r. ⌜ leaving r (now (into .exit)) ≡ moveOutcome (now (frame .entry)) (now (into .entry)) ⌝ }
+    ensures { λ r. ⌜ Tells (moveOutcome (now (frame .entry)) (now (into .entry))) r (now (into .exit)) ⌝ }
 {
     let a = FileOffset(frames::number_at(frame, frames::A));
     let b = FileOffset(frames::number_at(frame, frames::B));
     let sheet1 = frames::sheet1(frame);
     let sheet2 = frames::sheet2(frame);
     let from = frames::from(frame);
-    told::of_carried(astrephon::move_tray(sheet1, sheet2, a, b, from, into))
+    said::of_carried(astrephon::move_tray(sheet1, sheet2, a, b, from, into))
 }
 
 pub fn move_pair(frame: &[u8], into: &mut [u8]) -> Answer
     requires { ⌜ Whole (now frame) ⌝ }
-    ensures { λ r. ⌜ leaving r (now (into .exit)) ≡ pairMoveOutcome (now (frame .entry)) (now (into .entry)) ⌝ }
+    ensures { λ r. ⌜ Tells (pairMoveOutcome (now (frame .entry)) (now (into .entry))) r (now (into .exit)) ⌝ }
 {
     let i = frames::number_at(frame, frames::I);
     let j = frames::number_at(frame, frames::J);
@@ -54,5 +52,5 @@ pub fn move_pair(frame: &[u8], into: &mut [u8]) -> Answer
     let sheet1 = frames::sheet1(frame);
     let sheet2 = frames::sheet2(frame);
     let from = frames::from(frame);
-    told::of_carried(astrephon::move_pair(sheet1, sheet2, i, j, a, b, from, into))
+    said::of_carried(astrephon::move_pair(sheet1, sheet2, i, j, a, b, from, into))
 }

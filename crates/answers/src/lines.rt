@@ -6,20 +6,11 @@ ghost use Rattle.io.specs.Counts.{Counts};
 ghost use Rattle.io.specs.Digits.{glyph};
 ghost use Rattle.words.specs.Texts.{Put};
 ghost use Rattle.answers.specs.Lines.{field, fields, hex, buffer, line};
+use said::Answer;
 
-// The longest line: six numbers of 20 digits, a space after each, two digits for each byte of a buffer that is no longer than its frame, or its `-`,
+// The longest line: seven numbers of 20 digits, a space after each, two digits for each byte of a buffer that is no longer than its frame, or its `-`,
 // and the line's end.
-pub const LONGEST: usize = 131192;
-
-// What a line says. Number 0 is an accepted call; values that a call does not give are 0.
-pub struct Answer {
-    pub number: u64,
-    pub sheet: u64,
-    pub place: u64,
-    pub flag: u64,
-    pub value: u64,
-    pub value2: u64,
-}
+pub const LONGEST: usize = 131213;
 
 // Puts n in decimal and a space into `text` at `at`, and answers where they end.
 fn put_field(n: u64, text: &mut [u8], at: usize) -> usize
@@ -33,15 +24,16 @@ fn put_field(n: u64, text: &mut [u8], at: usize) -> usize
 
 // Puts the answer's numbers into `text`, and answers where they end.
 fn put_numbers(answer: Answer, text: &mut [u8]) -> usize
-    requires { ⌜ 126 ≤ length (now text) ⌝ }
-    ensures { λ r. ⌜ Put (fields answer) 126 0 r (now (text .entry)) (now (text .exit)) ⌝ }
+    requires { ⌜ 147 ≤ length (now text) ⌝ }
+    ensures { λ r. ⌜ Put (fields answer) 147 0 r (now (text .entry)) (now (text .exit)) ⌝ }
 {
     let end1 = put_field(answer.number, text, 0);
     let end2 = put_field(answer.sheet, text, end1);
     let end3 = put_field(answer.place, text, end2);
     let end4 = put_field(answer.flag, text, end3);
     let end5 = put_field(answer.value, text, end4);
-    put_field(answer.value2, text, end5)
+    let end6 = put_field(answer.value2, text, end5);
+    put_field(answer.value3, text, end6)
 }
 
 // The character of a digit of base 16.
@@ -83,7 +75,7 @@ fn put_buffer(bytes: &[u8], text: &mut [u8], at: usize) -> usize
 
 // Puts the line of an answer and of the destination buffer into `text`, and answers how long it is.
 pub fn put_line(answer: Answer, into: &[u8], text: &mut [u8]) -> usize
-    requires { ⌜ 128 + 2 * length (now into) ≤ length (now text) ⌝ }
+    requires { ⌜ 149 + 2 * length (now into) ≤ length (now text) ⌝ }
     ensures { λ r. ⌜ (take r (now (text .exit)) ≡ line answer (now (into .entry))) × Counts r (now (text .exit)) ⌝ }
 {
     let numbers = put_numbers(answer, text);

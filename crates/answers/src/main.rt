@@ -1,15 +1,16 @@
 // Answers: reads calls from standard input and prints the answer to each, a frame in and a line out. This is how a separate program, or any office's
 // script, asks the library.
 //
-// `frames` finds the parts of a frame, `numbers` reads and writes numbers of 64 bits, `calls` makes the call, with `carrying` for those that carry bytes,
-// `told` has its answer in numbers, `lines` writes the line. All are functions on slices and are proved to do just what their definitions say. No contract
-// can say what is read or written, so this file is proved safe, and proved to end.
+// `frames` finds the parts of a frame, `numbers` reads and writes numbers of 64 bits, `calls` makes the call, with `asking` for those that write nothing,
+// `carrying` for those that carry bytes and `writing` for those that write a list or a text; `lines` writes the line. All are functions on slices and are
+// proved to do just what their definitions say. No contract can say what is read or written, so this file is proved safe, and proved to end.
+mod asking;
 mod calls;
 mod carrying;
 mod frames;
 mod lines;
 mod numbers;
-mod told;
+mod writing;
 
 ghost use lib.ListN.{length};
 ghost use Rattle.answers.specs.Lines.{Room};

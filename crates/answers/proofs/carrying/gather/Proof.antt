@@ -1,7 +1,7 @@
 -- `gather` meets its contract. Assumes nothing.
+use Rattle.astrephon.specs.Said.{carriedSays}
 use Rattle.astrephon.specs.Carries.{gatheredCall}
-use Rattle.answers.specs.Replies.{ofCarried}
-use Rattle.answers.proofs.Replies.{told-left}
+use Rattle.answers.proofs.Replies.{told}
 use borrow.Author.Needs.{needs}
 use Rattle.answers.proofs.carrying.gather.Statement.{statement}
 use Rattle.answers.proofs.carrying.gather.Tie as tie
@@ -31,18 +31,7 @@ same-length : tie.Need-same-length
 same-length c = search needs
 
 returns : tie.Need-returns
-returns c =
-    let called = c .before .before .before in
-    let source = called .before .before in
-    let sheet = source .before in
-    let b = sheet .before in
-    let a = b .before in
-    let i = a .before in
-    let start = i .before .before .before in
-    told-left ofCarried
-    (λ t. gatheredCall (sheet .sheet1 .ensures t) (i .number-at .ensures t)
-    (a .number-at2 .ensures t) (b .number-at3 .ensures t) (source .from .ensures t) (start .args .into .now))
-    (called .gather .ensures .0) (called .gather .ensures .1) (c .of-carried .ensures)
+returns c = told carriedSays (c .before .before .before .gather .result) (c .of-carried .ensures) (c .before .before .before .gather .ensures) (λ t. gatheredCall (c .before .before .before .before .before .before .sheet1 .ensures t) (c .before .before .before .before .before .before .before .before .before .number-at .ensures t) (c .before .before .before .before .before .before .before .before .number-at2 .ensures t) (c .before .before .before .before .before .before .before .number-at3 .ensures t) (c .before .before .before .before .before .from .ensures t) (c .before .before .before .before .before .before .before .before .before .before .before .before .args .into .now))
 
 pub gather-spec : {M : Type 1} → statement M
 gather-spec =

@@ -1,7 +1,7 @@
 -- `move_pair` meets its contract. Assumes nothing.
+use Rattle.astrephon.specs.Said.{carriedSays}
 use Rattle.astrephon.specs.Moves.{pairMovedCall}
-use Rattle.answers.specs.Replies.{ofCarried}
-use Rattle.answers.proofs.Replies.{told-left}
+use Rattle.answers.proofs.Replies.{told}
 use borrow.Author.Needs.{needs}
 use Rattle.answers.proofs.carrying.move_pair.Statement.{statement}
 use Rattle.answers.proofs.carrying.move_pair.Tie as tie
@@ -37,20 +37,7 @@ same-length : tie.Need-same-length
 same-length c = search needs
 
 returns : tie.Need-returns
-returns c =
-    let called = c .before .before .before in
-    let source = called .before .before in
-    let two = source .before in
-    let one = two .before in
-    let b = one .before in
-    let a = b .before in
-    let j = a .before in
-    let i = j .before in
-    let start = i .before .before .before in
-    told-left ofCarried
-    (λ t. pairMovedCall (one .sheet1 .ensures t) (two .sheet2 .ensures t) (i .number-at .ensures t) (j .number-at2 .ensures t)
-    (a .number-at3 .ensures t) (b .number-at4 .ensures t) (source .from .ensures t) (start .args .into .now))
-    (called .move-pair .ensures .0) (called .move-pair .ensures .1) (c .of-carried .ensures)
+returns c = told carriedSays (c .before .before .before .move-pair .result) (c .of-carried .ensures) (c .before .before .before .move-pair .ensures) (λ t. pairMovedCall (c .before .before .before .before .before .before .before .sheet1 .ensures t) (c .before .before .before .before .before .before .sheet2 .ensures t) (c .before .before .before .before .before .before .before .before .before .before .before .number-at .ensures t) (c .before .before .before .before .before .before .before .before .before .before .number-at2 .ensures t) (c .before .before .before .before .before .before .before .before .before .number-at3 .ensures t) (c .before .before .before .before .before .before .before .before .number-at4 .ensures t) (c .before .before .before .before .before .from .ensures t) (c .before .before .before .before .before .before .before .before .before .before .before .before .before .before .args .into .now))
 
 pub move-pair-spec : {M : Type 1} → statement M
 move-pair-spec =

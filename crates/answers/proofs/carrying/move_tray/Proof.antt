@@ -1,7 +1,7 @@
 -- `move_tray` meets its contract. Assumes nothing.
+use Rattle.astrephon.specs.Said.{carriedSays}
 use Rattle.astrephon.specs.Moves.{movedCall}
-use Rattle.answers.specs.Replies.{ofCarried}
-use Rattle.answers.proofs.Replies.{told-left}
+use Rattle.answers.proofs.Replies.{told}
 use borrow.Author.Needs.{needs}
 use Rattle.answers.proofs.carrying.move_tray.Statement.{statement}
 use Rattle.answers.proofs.carrying.move_tray.Tie as tie
@@ -31,18 +31,7 @@ same-length : tie.Need-same-length
 same-length c = search needs
 
 returns : tie.Need-returns
-returns c =
-    let called = c .before .before .before in
-    let source = called .before .before in
-    let two = source .before in
-    let one = two .before in
-    let b = one .before in
-    let a = b .before in
-    let start = a .before .before .before in
-    told-left ofCarried
-    (λ t. movedCall (one .sheet1 .ensures t) (two .sheet2 .ensures t) (a .number-at .ensures t) (b .number-at2 .ensures t)
-    (source .from .ensures t) (start .args .into .now))
-    (called .move-tray .ensures .0) (called .move-tray .ensures .1) (c .of-carried .ensures)
+returns c = told carriedSays (c .before .before .before .move-tray .result) (c .of-carried .ensures) (c .before .before .before .move-tray .ensures) (λ t. movedCall (c .before .before .before .before .before .before .before .sheet1 .ensures t) (c .before .before .before .before .before .before .sheet2 .ensures t) (c .before .before .before .before .before .before .before .before .before .number-at .ensures t) (c .before .before .before .before .before .before .before .before .number-at2 .ensures t) (c .before .before .before .before .before .from .ensures t) (c .before .before .before .before .before .before .before .before .before .before .before .before .args .into .now))
 
 pub move-tray-spec : {M : Type 1} → statement M
 move-tray-spec =

@@ -1,7 +1,7 @@
 -- `scatter` meets its contract. Assumes nothing.
+use Rattle.astrephon.specs.Said.{carriedSays}
 use Rattle.astrephon.specs.Carries.{scatteredCall}
-use Rattle.answers.specs.Replies.{ofCarried}
-use Rattle.answers.proofs.Replies.{told-left}
+use Rattle.answers.proofs.Replies.{told}
 use borrow.Author.Needs.{needs}
 use Rattle.answers.proofs.carrying.scatter.Statement.{statement}
 use Rattle.answers.proofs.carrying.scatter.Tie as tie
@@ -31,18 +31,7 @@ same-length : tie.Need-same-length
 same-length c = search needs
 
 returns : tie.Need-returns
-returns c =
-    let called = c .before .before .before in
-    let source = called .before .before in
-    let sheet = source .before in
-    let b = sheet .before in
-    let a = b .before in
-    let i = a .before in
-    let start = i .before .before .before in
-    told-left ofCarried
-    (λ t. scatteredCall (sheet .sheet1 .ensures t) (i .number-at .ensures t)
-    (a .number-at2 .ensures t) (b .number-at3 .ensures t) (source .from .ensures t) (start .args .into .now))
-    (called .scatter .ensures .0) (called .scatter .ensures .1) (c .of-carried .ensures)
+returns c = told carriedSays (c .before .before .before .scatter .result) (c .of-carried .ensures) (c .before .before .before .scatter .ensures) (λ t. scatteredCall (c .before .before .before .before .before .before .sheet1 .ensures t) (c .before .before .before .before .before .before .before .before .before .number-at .ensures t) (c .before .before .before .before .before .before .before .before .number-at2 .ensures t) (c .before .before .before .before .before .before .before .number-at3 .ensures t) (c .before .before .before .before .before .from .ensures t) (c .before .before .before .before .before .before .before .before .before .before .before .before .args .into .now))
 
 pub scatter-spec : {M : Type 1} → statement M
 scatter-spec =

@@ -1,10 +1,10 @@
 -- `inverse` meets its contract. Assumes nothing.
-use mathlib.Core.Path.{ap, _∙_}
+use Rattle.astrephon.specs.Said.{locatedSays}
 use Rattle.astrephon.specs.Maps.{inverseCall}
-use Rattle.answers.specs.Replies.{ofLocated}
+use Rattle.answers.proofs.Replies.{asked}
 use borrow.Author.Needs.{needs}
-use Rattle.answers.proofs.calls.inverse.Statement.{statement}
-use Rattle.answers.proofs.calls.inverse.Tie as tie
+use Rattle.answers.proofs.asking.inverse.Statement.{statement}
+use Rattle.answers.proofs.asking.inverse.Tie as tie
 
 number-at-requires : tie.Need-number-at-requires
 number-at-requires c κs = search needs
@@ -22,12 +22,7 @@ of-located-requires : tie.Need-of-located-requires
 of-located-requires c κs = search needs
 
 returns : tie.Need-returns
-returns c =
-    let called = c .before in
-    let sheet = called .before in
-    let a = sheet .before in
-    let i = a .before in
-    c .of-located .ensures ∙ ap ofLocated (called .inverse .ensures ∙ (λ t. inverseCall (sheet .sheet1 .ensures t) (i .number-at .ensures t) (a .number-at2 .ensures t)))
+returns c = asked locatedSays (c .before .inverse .result) (c .of-located .ensures) (c .before .inverse .ensures) (λ t. inverseCall (c .before .before .sheet1 .ensures t) (c .before .before .before .before .number-at .ensures t) (c .before .before .before .number-at2 .ensures t))
 
 pub inverse-spec : {M : Type 1} → statement M
 inverse-spec =

@@ -1,10 +1,10 @@
 -- `next` meets its contract. Assumes nothing.
-use mathlib.Core.Path.{ap, _∙_}
+use Rattle.astrephon.specs.Said.{mappedSays}
 use Rattle.astrephon.specs.Maps.{nextCall}
-use Rattle.answers.specs.Replies.{ofMapped}
+use Rattle.answers.proofs.Replies.{asked}
 use borrow.Author.Needs.{needs}
-use Rattle.answers.proofs.calls.next.Statement.{statement}
-use Rattle.answers.proofs.calls.next.Tie as tie
+use Rattle.answers.proofs.asking.next.Statement.{statement}
+use Rattle.answers.proofs.asking.next.Tie as tie
 
 number-at-requires : tie.Need-number-at-requires
 number-at-requires c κs = search needs
@@ -22,12 +22,7 @@ of-mapped-requires : tie.Need-of-mapped-requires
 of-mapped-requires c κs = search needs
 
 returns : tie.Need-returns
-returns c =
-    let called = c .before in
-    let sheet = called .before in
-    let a = sheet .before in
-    let i = a .before in
-    c .of-mapped .ensures ∙ ap ofMapped (called .next .ensures ∙ (λ t. nextCall (sheet .sheet1 .ensures t) (i .number-at .ensures t) (a .number-at2 .ensures t)))
+returns c = asked mappedSays (c .before .next .result) (c .of-mapped .ensures) (c .before .next .ensures) (λ t. nextCall (c .before .before .sheet1 .ensures t) (c .before .before .before .before .number-at .ensures t) (c .before .before .before .number-at2 .ensures t))
 
 pub next-spec : {M : Type 1} → statement M
 next-spec =

@@ -1,10 +1,10 @@
 -- `span` meets its contract. Assumes nothing.
-use mathlib.Core.Path.{ap, _∙_}
+use Rattle.astrephon.specs.Said.{spannedSays}
 use Rattle.astrephon.specs.Maps.{spanCall}
-use Rattle.answers.specs.Replies.{ofSpanned}
+use Rattle.answers.proofs.Replies.{asked}
 use borrow.Author.Needs.{needs}
-use Rattle.answers.proofs.calls.span.Statement.{statement}
-use Rattle.answers.proofs.calls.span.Tie as tie
+use Rattle.answers.proofs.asking.span.Statement.{statement}
+use Rattle.answers.proofs.asking.span.Tie as tie
 
 number-at-requires : tie.Need-number-at-requires
 number-at-requires c κs = search needs
@@ -25,14 +25,7 @@ of-spanned-requires : tie.Need-of-spanned-requires
 of-spanned-requires c κs = search needs
 
 returns : tie.Need-returns
-returns c =
-    let called = c .before in
-    let sheet = called .before in
-    let z = sheet .before in
-    let a = z .before in
-    let i = a .before in
-    c .of-spanned .ensures
-    ∙ ap ofSpanned (called .span .ensures ∙ (λ t. spanCall (sheet .sheet1 .ensures t) (i .number-at .ensures t) (a .number-at2 .ensures t) (z .number-at3 .ensures t)))
+returns c = asked spannedSays (c .before .span .result) (c .of-spanned .ensures) (c .before .span .ensures) (λ t. spanCall (c .before .before .sheet1 .ensures t) (c .before .before .before .before .before .number-at .ensures t) (c .before .before .before .before .number-at2 .ensures t) (c .before .before .before .number-at3 .ensures t))
 
 pub span-spec : {M : Type 1} → statement M
 span-spec =

@@ -2,12 +2,12 @@
 use mathlib.Core.List.{List}
 use mathlib.Core.Path.{ap}
 use Prim.Native.Nat.{ℕ}
-use borrow.Author.Needs.{needs}
-use Rattle.answers.proofs.Replies.{told-left}
-use Rattle.answers.specs.Replies.{ofWritten}
+use Rattle.astrephon.specs.Said.{writtenSays}
 use Rattle.astrephon.specs.Texts.{writtenCall}
-use Rattle.answers.proofs.calls.list_sheet.Statement.{statement}
-use Rattle.answers.proofs.calls.list_sheet.Tie as tie
+use Rattle.answers.proofs.Replies.{told}
+use borrow.Author.Needs.{needs}
+use Rattle.answers.proofs.writing.list_sheet.Statement.{statement}
+use Rattle.answers.proofs.writing.list_sheet.Tie as tie
 
 sheet1-requires : tie.Need-sheet1-requires
 sheet1-requires c κs = search needs
@@ -22,7 +22,7 @@ same-length : tie.Need-same-length
 same-length c = search needs
 
 returns : tie.Need-returns
-returns c = let called = c .before .before .before in let sheet = called .before .before in told-left ofWritten (ap (λ (s : List ℕ). writtenCall s (sheet .before .before .before .args .into .now)) (sheet .sheet1 .ensures)) (called .list-sheet .ensures .0) (called .list-sheet .ensures .1) (c .of-written .ensures)
+returns c = told writtenSays (c .before .before .before .list-sheet .result) (c .of-written .ensures) (c .before .before .before .list-sheet .ensures) (ap (λ (s : List ℕ). writtenCall s (c .before .before .before .before .before .before .before .before .args .into .now)) (c .before .before .before .before .before .sheet1 .ensures))
 
 pub list-sheet-spec : {M : Type 1} → statement M
 list-sheet-spec =

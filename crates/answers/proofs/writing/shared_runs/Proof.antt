@@ -4,8 +4,8 @@ use Prim.Native.Nat.{_/_}
 use lib.ListN.{length, take}
 use Rattle.answers.proofs.Slots.{list-lent}
 use borrow.Author.Needs.{needs}
-use Rattle.answers.proofs.calls.shared_runs.Statement.{statement}
-use Rattle.answers.proofs.calls.shared_runs.Tie as tie
+use Rattle.answers.proofs.writing.shared_runs.Statement.{statement}
+use Rattle.answers.proofs.writing.shared_runs.Tie as tie
 
 abbrev start : tie.After-list → tie.Start
 start c = c .before .before .before .before .before
