@@ -1,7 +1,8 @@
 -- `main` is safe and ends: what the call says it wrote fits the buffer. Assumes nothing.
-use mathlib.Core.Path.{sym, _∙_}
+use mathlib.Core.Path.{sym, ap, _∙_}
 use lib.Seq.{length-take-le}
 use borrow.Author.Needs.{needs}
+use Rattle.astrephon.specs.Said.{writtenSays}
 use Rattle.astrephon.proofs.Texts.{written-fits}
 use Rattle.listing.proofs.main.Statement.{statement}
 use Rattle.listing.proofs.main.Tie as tie
@@ -28,10 +29,10 @@ enum-known-written : tie.Need-enum-known-written
 enum-known-written c = search needs
 
 array-share-prefix-text : tie.Need-array-share-prefix-text
-array-share-prefix-text c = let said = c .before .before .before .before .list-sheet .ensures in written-fits _ _ (sym (c .before .written .given .1) ∙ said .0) (said .1)
+array-share-prefix-text c = let said = c .before .before .before .before .list-sheet .ensures in written-fits _ _ (ap writtenSays (sym (c .before .written .given .1)) ∙ said .0) (said .1)
 
 slice-aggregate-write-all : tie.Need-slice-aggregate-write-all
-slice-aggregate-write-all c = let said = c .before .before .before .before .before .list-sheet .ensures in sym (length-take-le _ _ (written-fits _ _ (sym (c .before .before .written .given .1) ∙ said .0) (said .1)))
+slice-aggregate-write-all c = let said = c .before .before .before .before .before .list-sheet .ensures in sym (length-take-le _ _ (written-fits _ _ (ap writtenSays (sym (c .before .before .written .given .1)) ∙ said .0) (said .1)))
 
 write-all-requires : tie.Need-write-all-requires
 write-all-requires c κs = search needs
