@@ -29,7 +29,7 @@ LONGEST = 65_532
 
 # Each call: its number, what it takes in the order of the words above, and what its values are.
 CALLS = {
-    "check": (1, "sheet1", ["size", "elements"]),
+    "check": (1, "sheet1", ["size", "elements", "displacement"]),
     "exact": (2, "sheet1 i a", ["byte"]),
     "next": (3, "sheet1 i a", ["byte"]),
     "inverse": (4, "sheet1 i a", ["offset"]),
@@ -44,7 +44,7 @@ CALLS = {
 FLAGS = ["", " hole", " overlap"]
 
 # Number 0 is an accepted call. `into` is the lent buffer after the call.
-Answer = collections.namedtuple("Answer", "number sheet place flag value value2 into")
+Answer = collections.namedtuple("Answer", "number sheet place flag value value2 value3 into")
 
 
 def frame(call, i=0, j=0, a=0, b=0, sheet1=b"", sheet2=b"", source=b"", into=b""):
@@ -85,7 +85,7 @@ def main(call="", *words):
     if "into" in given:
         pathlib.Path(words[-1]).write_bytes(said.into)
     if gives:
-        print(*(f"{name} {value}" for name, value in zip(gives, [said.value, said.value2])))
+        print(*(f"{name} {value}" for name, value in zip(gives, [said.value, said.value2, said.value3])))
 
 
 if __name__ == "__main__":

@@ -88,7 +88,8 @@ fn window(frame: &Frame, larger_displacement: u64) -> Result<Window, Refused> {
 
 fn check(frame: &Frame) -> Result<Answer, Refused> {
     let layout = read(&frame.sheet1, 1)?;
-    Ok(Answer::accepted(frame, Pattern::of(&layout).size() as u64, layout.elements.len() as u64))
+    let (size, elements) = (Pattern::of(&layout).size() as u64, layout.elements.len() as u64);
+    Ok(Answer::accepted(frame, &[size, elements, u64::from(layout.displacement)]))
 }
 
 /// The rank of x, where x is no offset below the displacement nor one past the file's end.
@@ -102,17 +103,17 @@ fn exact(frame: &Frame) -> Result<Answer, Refused> {
     let element = only_element(frame)?;
     let rank = rank(&element, frame.a)?;
     refuse_if(!element.has(frame.a), FOREIGN)?;
-    Ok(Answer::accepted(frame, rank, 0))
+    Ok(Answer::accepted(frame, &[rank]))
 }
 
 fn next(frame: &Frame) -> Result<Answer, Refused> {
     let element = only_element(frame)?;
-    Ok(Answer::accepted(frame, rank(&element, frame.a)?, 0))
+    Ok(Answer::accepted(frame, &[rank(&element, frame.a)?]))
 }
 
 fn inverse(frame: &Frame) -> Result<Answer, Refused> {
     let byte = only_element(frame)?.byte(frame.a).ok_or(refused(FAR, 0))?;
-    Ok(Answer::accepted(frame, byte, 0))
+    Ok(Answer::accepted(frame, &[byte]))
 }
 
 /// Both ends are offsets of the file, so each may be BEFORE or FAR; BEFORE of either goes before FAR of either.
@@ -122,7 +123,7 @@ fn interval_span(frame: &Frame) -> Result<Answer, Refused> {
     refuse_if(a > z, WINDOW)?;
     refuse_if(a < element.displacement() || z < element.displacement(), BEFORE)?;
     refuse_if(a >= END || z >= END, FAR)?;
-    Ok(Answer::accepted(frame, element.rank(a), element.rank(z)))
+    Ok(Answer::accepted(frame, &[element.rank(a), element.rank(z)]))
 }
 
 /// Calls 6 to 9: what each carries, once its sheets and element indexes are sound.
@@ -150,7 +151,7 @@ fn sound_transfer(frame: &Frame) -> Result<(Transfer, Window), Refused> {
 
 fn carry(frame: &Frame) -> Result<Answer, Refused> {
     let (transfer, window) = sound_transfer(frame)?;
-    Ok(Answer { into: transfer.after(window, &frame.from, &frame.into), ..Answer::accepted(frame, 0, 0) })
+    Ok(Answer { into: transfer.after(window, &frame.from, &frame.into), ..Answer::accepted(frame, &[]) })
 }
 
 /// The file offset of the byte at each place of `into`, where a call of 6 to 9 is accepted: for a person who looks at a difference.
@@ -169,14 +170,14 @@ fn shared_runs(frame: &Frame) -> Result<Answer, Refused> {
         return Err(refused(ROOM, runs.len()));
     }
     let slots: Vec<u8> = runs.iter().flat_map(Run::slots).flat_map(u64::to_le_bytes).collect();
-    Ok(Answer { into: written(&slots, &frame.into), ..Answer::accepted(frame, runs.len() as u64, 0) })
+    Ok(Answer { into: written(&slots, &frame.into), ..Answer::accepted(frame, &[runs.len() as u64]) })
 }
 
 /// A refused sheet has a text too, so it is no refused call: only a buffer that is too short is.
 fn listing(frame: &Frame) -> Result<Answer, Refused> {
     let text = listing::text(&frame.sheet1);
     refuse_if(frame.into.len() < text.len(), BUFFER)?;
-    Ok(Answer { into: written(text.as_bytes(), &frame.into), ..Answer::accepted(frame, text.len() as u64, 0) })
+    Ok(Answer { into: written(text.as_bytes(), &frame.into), ..Answer::accepted(frame, &[text.len() as u64]) })
 }
 
 /// A buffer or list after the call: what is written stands at its front. What lies behind stays, whole slots or not.

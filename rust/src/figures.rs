@@ -58,7 +58,8 @@ pub fn whole_file(displacement: u32) -> Layout {
 }
 
 fn accepted(name: &'static str, layout: &Layout, size: u64) -> Figure {
-    let answer = Answer { value: size, value2: layout.elements.len() as u64, ..Answer::default() };
+    let (value2, value3) = (layout.elements.len() as u64, u64::from(layout.displacement));
+    let answer = Answer { value: size, value2, value3, ..Answer::default() };
     Figure { name, frame: Frame::check(sheet(layout)), answer }
 }
 

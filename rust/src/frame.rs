@@ -146,14 +146,16 @@ pub struct Answer {
     pub flag: u8,
     pub value: u64,
     pub value2: u64,
+    pub value3: u64,
     /// The destination buffer after the call.
     pub into: Vec<u8>,
 }
 
 impl Answer {
-    /// An accepted call that writes nothing: the destination is as it was.
-    pub fn accepted(frame: &Frame, value: u64, value2: u64) -> Answer {
-        Answer { value, value2, into: frame.into.clone(), ..Answer::default() }
+    /// An accepted call that writes nothing, with the values that it gives: the destination is as it was.
+    pub fn accepted(frame: &Frame, values: &[u64]) -> Answer {
+        let given = |place: usize| values.get(place).copied().unwrap_or(0);
+        Answer { value: given(0), value2: given(1), value3: given(2), into: frame.into.clone(), ..Answer::default() }
     }
 
     /// A refusal of the sheet named, 0 where no sheet is at fault, with the destination as it was.
@@ -167,6 +169,7 @@ impl Answer {
             [] => String::from("-"),
             bytes => bytes.iter().map(|byte| format!("{byte:02x}")).collect(),
         };
-        format!("{} {} {} {} {} {} {into}", self.number, self.sheet, self.place, self.flag, self.value, self.value2)
+        let Answer { number, sheet, place, flag, value, value2, value3, .. } = self;
+        format!("{number} {sheet} {place} {flag} {value} {value2} {value3} {into}")
     }
 }

@@ -116,7 +116,7 @@ fn record(bytes: &[u8], at: usize) -> Option<(String, usize)> {
 /// A line with the name of its number.
 fn line(line: &str) -> String {
     let fields: Vec<&str> = line.split(' ').collect();
-    let [number, sheet, place, flag, value, value2, into] = fields[..] else {
+    let [number, sheet, place, flag, value, value2, value3, into] = fields[..] else {
         return format!("'{}'", cut(line));
     };
     let named = number.parse::<usize>().ok().and_then(|number| NAMES.get(number));
@@ -128,7 +128,7 @@ fn line(line: &str) -> String {
         _ => ", a flag that does not exist",
     };
     let buffer = if into == "-" { String::from("no buffer") } else { format!("a buffer of {} bytes", into.len() / 2) };
-    format!("'{}': {name}{flag}; sheet {sheet}, place {place}, values {value} and {value2}, {buffer}", cut(line))
+    format!("'{}': {name}{flag}; sheet {sheet}, place {place}, values {value}, {value2} and {value3}, {buffer}", cut(line))
 }
 
 /// A line may have a hundred thousand digits.
@@ -142,7 +142,7 @@ fn cut(line: &str) -> String {
 
 /// Where the buffers of two lines first differ, if they do.
 fn buffers(asked: Option<&Frame>, expected: &str, printed: &str) -> Option<String> {
-    let (expected, printed) = (expected.split(' ').nth(6)?, printed.split(' ').nth(6)?);
+    let (expected, printed) = (buffer(expected)?, buffer(printed)?);
     let digits = expected.len().max(printed.len());
     let byte = (0..digits).find(|place| expected.as_bytes().get(*place) != printed.as_bytes().get(*place))? / 2;
     let what = match asked {
@@ -151,6 +151,11 @@ fn buffers(asked: Option<&Frame>, expected: &str, printed: &str) -> Option<Strin
         _ => differing_slot(byte / 8, expected, printed),
     };
     Some(format!("the buffers differ at byte {byte}: {what}"))
+}
+
+/// The buffer's digits, which stand behind a line's seven numbers.
+fn buffer(line: &str) -> Option<&str> {
+    line.split(' ').nth(7)
 }
 
 /// A byte in either line, and its file offset where the call is accepted.

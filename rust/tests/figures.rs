@@ -1,7 +1,8 @@
 //! The figures of 01, and the order in which it names faults, with the answers that the paper gives.
 
 use comparison::calls::answer;
-use comparison::figures::{figures, layout_f};
+use comparison::figures::{figures, layout_c, layout_f};
+use comparison::frame::{Answer, Frame};
 use comparison::layout::{family, layout, run, Family, Layout};
 use comparison::refusal::{Refusal, COUNT, COVER, DEPTH, HOLE, KIND, LENGTH, MANY, ORDER, OVERLAP, SEGMENT, SHORT, SPAN, TRAILING};
 use comparison::sheet::read;
@@ -12,6 +13,16 @@ fn every_figure_is_as_printed() {
     for figure in figures() {
         assert_eq!(answer(&figure.frame), figure.answer, "{}", figure.name);
     }
+}
+
+/// As in the first line of 01's listing: the pattern's size, how many elements share it, and where it starts.
+#[test]
+fn check_tells_size_count_and_displacement() {
+    let told = |layout: &Layout| answer(&Frame::check(sheet(layout)));
+    assert_eq!(told(&layout_f()), Answer { value: 6, value2: 3, value3: 2, ..Answer::default() });
+    assert_eq!(told(&layout_c()), Answer { value: 1_920, value2: 4, ..Answer::default() });
+    let last = Layout { displacement: u32::MAX, ..layout_f() };
+    assert_eq!(told(&last).line(), "0 0 0 0 6 3 4294967295 -");
 }
 
 #[test]

@@ -56,6 +56,15 @@ fn every_refusal_is_met_often() {
     }
 }
 
+/// Who prints one of them in another's place, or leaves one out, is found out.
+#[test]
+fn the_three_values_of_check_can_be_told_apart() {
+    let accepted = answers(CHECK).into_iter().filter(|answer| answer.number == 0);
+    let apart = |answer: &&Answer| answer.value != answer.value2 && ![0, answer.value, answer.value2].contains(&answer.value3);
+    let met = accepted.filter(apart).count();
+    assert!(met >= 4 * OFTEN, "{met} answers have three values");
+}
+
 #[test]
 fn check_meets_every_refusal_of_a_sheet_often() {
     let answers = answers(CHECK);
@@ -246,7 +255,7 @@ fn a_bad_end_is_no_frame() {
 #[test]
 fn lines_are_as_the_program_prints_them() {
     let some = Answer { number: 18, place: 1 << 39, into: vec![0, 10, 255], ..Answer::default() };
-    assert_eq!(some.line(), "18 0 549755813888 0 0 0 000aff");
-    let none = Answer { value: 6, value2: 3, ..Answer::default() };
-    assert_eq!(none.line(), "0 0 0 0 6 3 -");
+    assert_eq!(some.line(), "18 0 549755813888 0 0 0 0 000aff");
+    let none = Answer { value: 6, value2: 3, value3: 2, ..Answer::default() };
+    assert_eq!(none.line(), "0 0 0 0 6 3 2 -");
 }

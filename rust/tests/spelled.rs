@@ -7,7 +7,7 @@ use comparison::spelled::difference;
 use comparison::write::sheet;
 
 fn told(frame: &Frame) -> String {
-    difference(Some(frame), "0 0 0 0 2 0 -", Some("16 0 0 0 0 0 -"))
+    difference(Some(frame), "0 0 0 0 2 0 0 -", Some("16 0 0 0 0 0 0 -"))
 }
 
 #[test]
@@ -47,7 +47,7 @@ fn sheets_and_lines_are_shown() {
     for part in ["sheet 1, 94 bytes", "header, displacement 2, 3 elements", "sheet 2, 66 bytes", "family (1,1,2,2) with 0 children"] {
         assert!(both.contains(part), "{both}");
     }
-    assert!(both.contains("'16 0 0 0 0 0 -': FOREIGN; sheet 0, place 0, values 0 and 0, no buffer"), "{both}");
+    assert!(both.contains("'16 0 0 0 0 0 0 -': FOREIGN; sheet 0, place 0, values 0, 0 and 0, no buffer"), "{both}");
     assert!(difference(None, "bad frame", None).contains("nothing: the lines end"));
 }
 
