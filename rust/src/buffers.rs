@@ -33,11 +33,11 @@ impl Holds {
         }
     }
 
-    /// The length required. It is counted and not walked: a window may have 2^40 bytes.
-    pub fn length(&self, (a, b): Window) -> u64 {
+    /// The length required.
+    pub fn length(&self, window: Window) -> u64 {
         match self {
-            Holds::Packed(element) => element.rank(b) - element.rank(a),
-            Holds::File | Holds::Tray(_) => b - a,
+            Holds::Packed(element) => element.packed_length(window),
+            Holds::File | Holds::Tray(_) => window.1 - window.0,
         }
     }
 

@@ -3,7 +3,9 @@
 
 use crate::buffers::{Transfer, Window};
 use crate::element::{Element, END};
-use crate::frame::{Answer, Frame, CHECK, EXACT, GATHER, INTERVAL_SPAN, INVERSE, LISTING, MOVE, NEXT, PAIR_MOVE, SCATTER, SHARED_RUNS};
+use crate::frame::{
+    Answer, Frame, CHECK, EXACT, GATHER, INTERVAL_SPAN, INVERSE, LISTING, MOVE, NEXT, PACKED_LENGTH, PAIR_MOVE, SCATTER, SHARED_RUNS,
+};
 use crate::layout::Layout;
 use crate::listing;
 use crate::pattern::Pattern;
@@ -12,7 +14,8 @@ use crate::runs::{self, Run};
 use crate::sheet;
 
 /// The calls that this program answers.
-pub const KNOWN: [u8; 11] = [CHECK, EXACT, NEXT, INVERSE, INTERVAL_SPAN, GATHER, SCATTER, MOVE, PAIR_MOVE, SHARED_RUNS, LISTING];
+pub const KNOWN: [u8; 12] =
+    [CHECK, EXACT, NEXT, INVERSE, INTERVAL_SPAN, GATHER, SCATTER, MOVE, PAIR_MOVE, SHARED_RUNS, LISTING, PACKED_LENGTH];
 
 /// The bytes of a slot, and the slots of a run.
 const SLOT: usize = 8;
@@ -34,6 +37,7 @@ pub fn answer(frame: &Frame) -> Answer {
         GATHER | SCATTER | MOVE | PAIR_MOVE => carry(frame),
         SHARED_RUNS => shared_runs(frame),
         LISTING => listing(frame),
+        PACKED_LENGTH => packed_length(frame),
         other => unreachable!("no frame of this program has the call {other}"),
     };
     said.unwrap_or_else(|refused| Answer::refused(frame, refused.sheet, refused.refusal))
@@ -124,6 +128,13 @@ fn interval_span(frame: &Frame) -> Result<Answer, Refused> {
     refuse_if(a < element.displacement() || z < element.displacement(), BEFORE)?;
     refuse_if(a >= END || z >= END, FAR)?;
     Ok(Answer::accepted(frame, &[element.rank(a), element.rank(z)]))
+}
+
+/// What gather refuses, but for its buffers: this call has none.
+fn packed_length(frame: &Frame) -> Result<Answer, Refused> {
+    let element = only_element(frame)?;
+    let window = window(frame, element.displacement())?;
+    Ok(Answer::accepted(frame, &[element.packed_length(window)]))
 }
 
 /// Calls 6 to 9: what each carries, once its sheets and element indexes are sound.

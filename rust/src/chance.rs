@@ -5,7 +5,7 @@ use crate::buffers::Window;
 use crate::damage::damaged;
 use crate::edges::wrapping;
 use crate::element::{Element, END};
-use crate::frame::{has_two_sheets, Frame, CHECK, EXACT, INTERVAL_SPAN, INVERSE, LISTING, SHARED_RUNS};
+use crate::frame::{has_two_sheets, Frame, CHECK, EXACT, INTERVAL_SPAN, INVERSE, LISTING, PACKED_LENGTH, SHARED_RUNS};
 use crate::layout::Layout;
 use crate::listing;
 use crate::random::Random;
@@ -19,6 +19,7 @@ pub fn frame(random: &mut Random, call: u8) -> Frame {
         CHECK => Frame::check(any_sheet(random)),
         SHARED_RUNS => shared_runs(random),
         LISTING => listing(random),
+        PACKED_LENGTH => packed_length(random),
         _ if TRANSFERS.contains(&call) => transfer(random, call),
         _ => of_one_element(random, call),
     }
@@ -156,6 +157,27 @@ fn interval(random: &mut Random, element: &Element, x: u64) -> (u64, u64) {
         4..=6 => (x.min(other), x.max(other)),
         _ => (x, x.saturating_add(random.long_below(3 * element.period()))),
     }
+}
+
+/// Of windows of all lengths, since nothing is carried: some patterns, up to any offset, and what no buffer holds.
+fn packed_length(random: &mut Random) -> Frame {
+    let layout = accepted(random);
+    let index = random.index(layout.elements.len());
+    let element = Element::of(&layout, index);
+    let start = element.displacement();
+    let window = match random.below(4) {
+        0 => long_window(random, start, &element),
+        1 => {
+            let x = file_offset(random, &element);
+            interval(random, &element, x)
+        }
+        _ => {
+            let length = random.long_below(3 * element.period());
+            window(random, start, &element, length)
+        }
+    };
+    let i = element_index(random, index);
+    Frame::packed_length(only_sheet(random, &layout), i, window)
 }
 
 /// An element of each of two accepted layouts.

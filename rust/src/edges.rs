@@ -39,7 +39,7 @@ fn in_turn(layout: &Layout, place: usize) -> usize {
 }
 
 /// The displacement and the pattern's size.
-fn start_and_period(layout: &Layout) -> (u64, u64) {
+pub fn start_and_period(layout: &Layout) -> (u64, u64) {
     (u64::from(layout.displacement), Element::of(layout, 0).period())
 }
 

@@ -60,6 +60,11 @@ impl Element {
         periods * self.size() + selected_among(&self.selected[..self.pattern_offset(x)])
     }
 
+    /// How many bytes of [a, b) are the element's. They are counted and not walked: a window may have 2^40 bytes.
+    pub fn packed_length(&self, (a, b): (u64, u64)) -> u64 {
+        self.rank(b) - self.rank(a)
+    }
+
     /// The file offset of byte y, or nothing where that is not below 2^40. It is looked for and not computed, so that no sum can wrap for
     /// a large y: ranks never fall, and the byte is where the rank steps from y to y+1.
     pub fn byte(&self, y: u64) -> Option<u64> {

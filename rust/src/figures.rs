@@ -72,7 +72,7 @@ const FIRST: u64 = 10 + 6;
 const SECOND: u64 = FIRST + 22;
 
 pub fn figures() -> Vec<Figure> {
-    sheets().into_iter().chain(mappings()).chain(trays()).chain(ends()).chain(shared_runs()).chain(listings()).collect()
+    [sheets(), mappings(), trays(), ends(), packed_lengths(), shared_runs(), listings()].into_iter().flatten().collect()
 }
 
 /// Call 1.
@@ -170,6 +170,22 @@ fn ends() -> Vec<Figure> {
     let accepted = of(END).into_iter().map(|frame| figure("the window end 2^40 is accepted", frame, value(0), [1, 2, 3]));
     let far = of(END + 1).into_iter().map(|frame| figure("the window end 2^40+1 is FAR", frame, number(FAR), [9, 9, 9]));
     accepted.chain(far).collect()
+}
+
+/// Call 17: how many bytes of 01's trays are each element's, and the same window ends.
+fn packed_lengths() -> Vec<Figure> {
+    let of = |name, layout: &Layout, i, window, answer| Figure { name, frame: Frame::packed_length(sheet(layout), i, window), answer };
+    let (a, b, file) = (layout_a(), layout_b(), whole_file(0));
+    vec![
+        of("of A's tray of [0,12) element 0 has 0 1 6 7", &a, 0, (0, 12), value(4)),
+        of("of B's tray of [0,12) element 1 has 1 3 5 7 9 11", &b, 1, (0, 12), value(6)),
+        of("of A's tray of [1,5) element 0 has 1", &a, 0, (1, 5), value(1)),
+        of("of A's tray of [1,5) element 1 has 2 3", &a, 1, (1, 5), value(2)),
+        of("of A's tray of [1,5) element 2 has 4", &a, 2, (1, 5), value(1)),
+        of("of B's tray of [1,5) element 0 has 2 4", &b, 0, (1, 5), value(2)),
+        of("the window end 2^40 is accepted", &file, 0, (0, END), value(END)),
+        of("the window end 2^40+1 is FAR", &file, 0, (0, END + 1), number(FAR)),
+    ]
 }
 
 /// A list of so many slots that are no run's: each names itself.

@@ -14,6 +14,7 @@ pub const MOVE: u8 = 8;
 pub const PAIR_MOVE: u8 = 9;
 pub const SHARED_RUNS: u8 = 10;
 pub const LISTING: u8 = 11;
+pub const PACKED_LENGTH: u8 = 17;
 
 /// Whether a call has a second sheet.
 pub fn has_two_sheets(call: u8) -> bool {
@@ -89,6 +90,11 @@ impl Frame {
     /// The text of the listing program, for a buffer of at least its length.
     pub fn listing(sheet: Vec<u8>, buffer: Vec<u8>) -> Frame {
         Frame { call: LISTING, sheet1: sheet, into: buffer, ..Frame::default() }
+    }
+
+    /// How many bytes of element i are in [a, b).
+    pub fn packed_length(sheet: Vec<u8>, i: u64, (a, b): (u64, u64)) -> Frame {
+        Frame { call: PACKED_LENGTH, i, a, b, sheet1: sheet, ..Frame::default() }
     }
 
     pub fn bytes(&self) -> Vec<u8> {

@@ -4,7 +4,7 @@ use crate::figures::{figures, layout_f};
 use crate::frame::{self, Frame, CHECK, LONGEST_BLOB, MOST};
 use crate::random::Random;
 use crate::write::sheet;
-use crate::{bounds, chance, edges, texts, transfers, unused, windows};
+use crate::{bounds, chance, edges, lengths, texts, transfers, unused, windows};
 
 /// The calls that frames are made of, `CHECK` first: those that the program `answers` has. `calls::KNOWN` may have more, which are added
 /// here once `answers` has them, and the kept frames are made anew.
@@ -20,10 +20,11 @@ pub const CALLS: &[u8] = &[
     frame::PAIR_MOVE,
     frame::SHARED_RUNS,
     frame::LISTING,
+    frame::PACKED_LENGTH,
 ];
 
 /// The seed and count of the frames that are kept beside the program `answers`. The seed also picks their bad end: one that is too long.
-pub const KEPT: (u64, usize) = (2014, 2_040);
+pub const KEPT: (u64, usize) = (2014, 2_142);
 
 /// The frames of a seed, call by call. Of each call the first ones do not depend on the seed.
 pub fn frames(calls: &[u8], seed: u64, count: usize) -> Vec<Frame> {
@@ -39,18 +40,19 @@ pub fn frames(calls: &[u8], seed: u64, count: usize) -> Vec<Frame> {
 /// The figures and edges of all calls.
 fn fixed() -> Vec<Frame> {
     let figures = figures().into_iter().map(|figure| figure.frame);
-    let edges = [bounds::frames(), edges::frames(), windows::frames(), transfers::frames(), texts::frames(), unused::frames()];
-    figures.chain(edges.into_iter().flatten()).collect()
+    let edges = [bounds::frames, edges::frames, windows::frames, transfers::frames, lengths::frames, texts::frames, unused::frames];
+    figures.chain(edges.into_iter().flat_map(|frames| frames())).collect()
 }
 
-/// How many of `count` frames the call at a place of the list has: the first one a quarter of them, since every call reads sheets and they
-/// can go wrong in the most ways, the others the same number each, or one less.
+/// How many of `count` frames the call at a place of the list has: the others the same number each, and the first one three times as many
+/// and what is left over, since every call reads sheets and they can go wrong in the most ways. So a call that is added, and a share for it,
+/// leave all other frames as they were.
 fn share(place: usize, calls: usize, count: usize) -> usize {
     let others = calls - 1;
-    let rest = if others == 0 { 0 } else { count / 4 * 3 };
+    let each = count / (others + 3);
     match place {
-        0 => count - rest,
-        _ => (rest + others - place) / others,
+        0 => count - others * each,
+        _ => each,
     }
 }
 

@@ -1,9 +1,9 @@
 //! A second reading of the paper 01, from its definitions alone and with no line of the library's code, to compare the library with.
 //!
 //! `calls` answers, by way of `sheet`, `pattern`, `element`, `runs`, `buffers` and `listing`; `write` makes sheets. What is asked are the
-//! `figures`, sheets at the `bounds`, calls at the `edges`, shared runs in `windows`, `transfers` from buffer to buffer, `texts` of
-//! listings, calls with something in what they leave `unused`, and calls by `chance` with sheets of all `shapes` and every `damage`, put
-//! together by `generate`. `frame` is how it is asked and answered; `spelled` says a frame in words.
+//! `figures`, sheets at the `bounds`, calls at the `edges`, packed `lengths`, shared runs in `windows`, `transfers` from buffer to buffer,
+//! `texts` of listings, calls with something in what they leave `unused`, and calls by `chance` with sheets of all `shapes` and every
+//! `damage`, put together by `generate`. `frame` is how it is asked and answered; `spelled` says a frame in words.
 
 pub mod bounds;
 pub mod buffers;
@@ -16,6 +16,7 @@ pub mod figures;
 pub mod frame;
 pub mod generate;
 pub mod layout;
+pub mod lengths;
 pub mod listing;
 pub mod pattern;
 pub mod random;

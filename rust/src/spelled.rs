@@ -2,7 +2,8 @@
 
 use crate::calls;
 use crate::frame::{
-    has_two_sheets, Frame, CHECK, EXACT, GATHER, INTERVAL_SPAN, INVERSE, LISTING, MOVE, NEXT, PAIR_MOVE, SCATTER, SHARED_RUNS,
+    has_two_sheets, Frame, CHECK, EXACT, GATHER, INTERVAL_SPAN, INVERSE, LISTING, MOVE, NEXT, PACKED_LENGTH, PAIR_MOVE, SCATTER,
+    SHARED_RUNS,
 };
 use crate::listing;
 use crate::refusal::{HOLE, NAMES, OVERLAP};
@@ -71,6 +72,7 @@ fn call(Frame { call, i, j, a, b, into, .. }: &Frame) -> String {
             format!("shared runs of element {i} of sheet 1 and element {j} of sheet 2 in the window [{a}, {b}), a list of {slots} slots")
         }
         LISTING => format!("listing, into a buffer of {} bytes", into.len()),
+        PACKED_LENGTH => format!("packed length of element {i} in the window [{a}, {b})"),
         other => format!("call {other}"),
     }
 }

@@ -58,13 +58,13 @@ fn fitting(call: u8, pair: &Pair, window: Window) -> Frame {
 }
 
 /// A layout with itself, for the calls of one sheet.
-fn alone(layout: &Layout, element: usize) -> Pair {
+pub fn alone(layout: &Layout, element: usize) -> Pair {
     pair(layout.clone(), layout.clone(), [element, element])
 }
 
 /// Windows that are accepted: those of `Pair::windows`, one that starts and ends inside a pattern, one of two patterns and some bytes where
 /// they are short, and another up to the file's end.
-fn windows(pair: &Pair) -> Vec<Window> {
+pub fn windows(pair: &Pair) -> Vec<Window> {
     let (start, period) = (pair.start(), pair.element(0).period());
     let inside = start + period / 2;
     let mut windows = pair.windows().to_vec();

@@ -1,7 +1,8 @@
 //! Frames that have something in what their call does not use, where all others have 0 or nothing. The answer is the same.
 
 use crate::figures::{hole, layout_b, layout_f, slots};
-use crate::frame::{has_two_sheets, Frame, CHECK, EXACT, INTERVAL_SPAN, INVERSE, LISTING, MOVE, NEXT, PAIR_MOVE, SHARED_RUNS};
+use crate::frame::{has_two_sheets, Frame};
+use crate::frame::{CHECK, EXACT, INTERVAL_SPAN, INVERSE, LISTING, MOVE, NEXT, PACKED_LENGTH, PAIR_MOVE, SHARED_RUNS};
 use crate::transfers::TRANSFERS;
 use crate::write::sheet;
 
@@ -33,7 +34,7 @@ pub fn with_unused(frame: &Frame, other: &Frame) -> Frame {
     if !TRANSFERS.contains(&call) {
         out.from = other.from;
     }
-    if [CHECK, EXACT, NEXT, INVERSE, INTERVAL_SPAN].contains(&call) {
+    if [CHECK, EXACT, NEXT, INVERSE, INTERVAL_SPAN, PACKED_LENGTH].contains(&call) {
         out.into = other.into;
     }
     out
@@ -62,6 +63,7 @@ fn asked() -> Vec<Frame> {
         Frame::scatter(f.clone(), 1, window, packed, file.clone()),
         Frame::tray_move(both.clone(), window, [file, vec![0; 12]]),
         Frame::shared_runs(both, [1, 1], window, slots(9)),
-        Frame::listing(f, vec![0; 130]),
+        Frame::listing(f.clone(), vec![0; 130]),
+        Frame::packed_length(f, 1, window),
     ]
 }

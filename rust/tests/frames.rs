@@ -1,10 +1,14 @@
 //! What the frames reach, that a frame can be read back, and that its bad ends are bad.
 
 use comparison::calls::{answer, KNOWN};
+use comparison::element::Element;
 use comparison::frame::{has_two_sheets, Answer, Frame};
-use comparison::frame::{CHECK, EXACT, GATHER, INTERVAL_SPAN, INVERSE, LISTING, MOVE, NEXT, PAIR_MOVE, SCATTER, SHARED_RUNS};
+use comparison::frame::{
+    CHECK, EXACT, GATHER, INTERVAL_SPAN, INVERSE, LISTING, MOVE, NEXT, PACKED_LENGTH, PAIR_MOVE, SCATTER, SHARED_RUNS,
+};
 use comparison::generate::{bad_end, by_chance, frames, BAD_ENDS, CALLS, KEPT};
 use comparison::refusal::{BEFORE, BUFFER, COVER, ELEMENT, FAR, FOREIGN, HOLE, NO_FLAG, OVERLAP, ROOM, WINDOW};
+use comparison::sheet::read;
 use comparison::transfers::TRANSFERS;
 use comparison::unused::{self, with_unused};
 use std::sync::OnceLock;
@@ -79,7 +83,7 @@ fn check_meets_every_refusal_of_a_sheet_often() {
 
 #[test]
 fn every_other_call_meets_its_own_refusals_often_and_no_others() {
-    let own: [(u8, &[u8]); 9] = [
+    let own: [(u8, &[u8]); 10] = [
         (EXACT, &[0, ELEMENT, BEFORE, FAR, FOREIGN]),
         (NEXT, &[0, ELEMENT, BEFORE, FAR]),
         (INVERSE, &[0, ELEMENT, FAR]),
@@ -90,6 +94,7 @@ fn every_other_call_meets_its_own_refusals_often_and_no_others() {
         (MOVE, &[0, BEFORE, FAR, WINDOW, BUFFER]),
         (PAIR_MOVE, &[0, ELEMENT, BEFORE, FAR, WINDOW, BUFFER]),
         (SHARED_RUNS, &[0, ELEMENT, BEFORE, FAR, WINDOW, ROOM]),
+        (PACKED_LENGTH, &[0, ELEMENT, BEFORE, FAR, WINDOW]),
     ];
     for (call, own) in own {
         let answers = answers(call);
@@ -152,6 +157,19 @@ fn runs_are_long_and_many_now_and_then() {
     assert!(with(|answer| answer.number == 0 && answer.value == 0 && answer.into.is_empty()) >= 5);
     assert!(with(|answer| answer.into.len() % 8 != 0) >= OFTEN);
     assert!(with(|answer| answer.into.len() > 1_024) <= 10);
+}
+
+/// Who answers the window's length, the rank of its end, or what one pattern has of it, is found out.
+#[test]
+fn a_packed_length_can_be_told_from_other_counts() {
+    let accepted = kept().iter().filter(|(frame, answer)| frame.call == PACKED_LENGTH && answer.number == 0);
+    let element = |frame: &Frame| Element::of(&read(&frame.sheet1).expect("the sheet is accepted"), frame.i as usize);
+    let apart = |frame: &Frame, length: u64| {
+        let element = element(frame);
+        ![0, frame.b - frame.a, element.rank(frame.b), element.rank(frame.a)].contains(&length) && length > element.size()
+    };
+    let met = accepted.filter(|(frame, answer)| apart(frame, answer.value)).count();
+    assert!(met >= 4 * OFTEN, "{met} packed lengths are no other count");
 }
 
 /// The frames of a call that are accepted, with the destination after it.
@@ -220,7 +238,7 @@ fn what_a_call_does_not_use_changes_nothing() {
 
 #[test]
 fn the_kept_frames_are_many_of_every_call() {
-    assert!(kept().len() >= 5_000, "{} frames", kept().len());
+    assert!(kept().len() >= 5_500, "{} frames", kept().len());
     for call in KNOWN {
         assert!(answers(call).len() >= 300, "call {call}: {} frames", answers(call).len());
     }

@@ -2,7 +2,7 @@
 
 use comparison::calls::{answer, KNOWN};
 use comparison::element::{Element, END};
-use comparison::frame::{has_two_sheets, Frame, INVERSE, SHARED_RUNS};
+use comparison::frame::{has_two_sheets, Frame, INVERSE, PACKED_LENGTH, SHARED_RUNS};
 use comparison::generate::{frames, KEPT};
 use comparison::layout::{count, Family, Layout};
 use comparison::listing::text;
@@ -65,14 +65,15 @@ fn is_border(kept: &Kept, x: u64) -> bool {
 
 #[test]
 fn the_windows_of_every_call_lie_at_every_edge() {
-    for call in TRANSFERS.into_iter().chain([SHARED_RUNS]) {
+    for call in TRANSFERS.into_iter().chain([SHARED_RUNS, PACKED_LENGTH]) {
         let window = |number: u8, meets: fn(&Kept, u64, u64) -> bool| met(call, number, |kept| meets(kept, kept.frame.a, kept.frame.b));
         let edges = [
             ("from the displacement on", window(0, |kept, a, b| a == start(kept) && a < b)),
             ("empty at the displacement", window(0, |kept, a, b| a == start(kept) && a == b)),
             ("from a border on", window(0, |kept, a, b| a > start(kept) && a < b && is_border(kept, a))),
             ("up to a border", window(0, |kept, a, b| a < b && is_border(kept, b))),
-            ("across a border", window(0, |kept, a, b| (a + 1..b).any(|x| is_border(kept, x)))),
+            // A border is no further away than a pattern is long.
+            ("across a border", window(0, |kept, a, b| (a + 1..b.min(a + 1 + kept.period)).any(|x| is_border(kept, x)))),
             ("up to 2^40", window(0, |_, a, b| a < b && b == END)),
             ("the last byte alone", window(0, |_, a, b| a == END - 1 && b == END)),
             ("empty at 2^40", window(0, |_, a, b| a == END && b == END)),
@@ -85,6 +86,14 @@ fn the_windows_of_every_call_lie_at_every_edge() {
             assert!(met >= 2, "call {call}: {met} windows {edge}");
         }
     }
+}
+
+/// Windows that no buffer holds: of more than 32 bits, of more than one pattern that is a buffer's length, and all of the file.
+#[test]
+fn packed_lengths_are_asked_of_windows_that_no_buffer_holds() {
+    let longer = |than: u64| met(PACKED_LENGTH, 0, |kept| kept.frame.b - kept.frame.a > than);
+    let whole = met(PACKED_LENGTH, 0, |kept| kept.frame.a == start(kept) && kept.frame.b == END);
+    assert!(longer(1 << 32) >= 40 && longer(1 << 16) >= 80 && whole >= 15, "{} {} {whole}", longer(1 << 32), longer(1 << 16));
 }
 
 #[test]

@@ -35,6 +35,7 @@ fn a_call_in_the_words_of_01() {
             "shared runs of element 1 of sheet 1 and element 0 of sheet 2 in the window [2, 14), a list of 9 slots",
         ),
         (Frame::listing(f(), vec![0; 130]), "listing, into a buffer of 130 bytes"),
+        (Frame::packed_length(f(), 1, (2, 14)), "packed length of element 1 in the window [2, 14)"),
     ];
     for (frame, line) in lines {
         assert_eq!(first_line(&frame).as_deref(), Some(line));
