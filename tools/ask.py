@@ -6,7 +6,8 @@
     next SHEET I X                                 the same of the element's first offset from X on
     inverse SHEET I Y                              at which file offset does byte Y of its subfile lie?
     span SHEET I A Z                               the bytes of its subfile from offset A to Z, both included
-    gather SHEET I A B FILE PACKED                 its bytes of the window from A up to, not including, B
+    packed-length SHEET I A B                      how many of its bytes lie in the window from A up to, not including, B?
+    gather SHEET I A B FILE PACKED                 its bytes of that window
     scatter SHEET I A B PACKED FILE                the same bytes, put back
     move SHEET1 SHEET2 A B TRAY1 TRAY2             from tray to tray
     pair-move SHEET1 SHEET2 I J A B TRAY1 TRAY2    only what elements I and J share
@@ -40,6 +41,7 @@ CALLS = {
     "pair-move": (9, "sheet1 sheet2 i j a b source into", []),
     "shared-runs": (10, "sheet1 sheet2 i j a b into", ["runs"]),
     "listing": (11, "sheet1 into", ["length"]),
+    "packed-length": (17, "sheet1 i a b", ["bytes"]),
 }
 FLAGS = ["", " hole", " overlap"]
 
