@@ -4,7 +4,7 @@
 use crate::buffers::{Transfer, Window};
 use crate::element::{Element, END};
 use crate::frame::{
-    Answer, Frame, CHECK, EXACT, GATHER, INTERVAL_SPAN, INVERSE, LISTING, MOVE, NEXT, PACKED_LENGTH, PAIR_MOVE, SCATTER, SHARED_RUNS,
+    Answer, Frame, BAD, CHECK, EXACT, GATHER, INTERVAL_SPAN, INVERSE, LISTING, MOVE, NEXT, PACKED_LENGTH, PAIR_MOVE, SCATTER, SHARED_RUNS,
 };
 use crate::layout::Layout;
 use crate::listing;
@@ -41,6 +41,20 @@ pub fn answer(frame: &Frame) -> Answer {
         other => unreachable!("no frame of this program has the call {other}"),
     };
     said.unwrap_or_else(|refused| Answer::refused(frame, refused.sheet, refused.refusal))
+}
+
+/// What the program `answers` prints for an input: a line for each frame, to the input's end or to what is no frame or no call.
+pub fn printed(mut input: &[u8]) -> String {
+    let mut lines = String::new();
+    while !input.is_empty() {
+        let Some((frame, rest)) = Frame::read(input).filter(|(frame, _)| KNOWN.contains(&frame.call)) else {
+            return lines + BAD + "\n";
+        };
+        lines += &answer(&frame).line();
+        lines.push('\n');
+        input = rest;
+    }
+    lines
 }
 
 /// A sheet of the call, the first or the second.

@@ -42,7 +42,7 @@ fn listing(random: &mut Random) -> Frame {
         2..=5 => text,
         _ => text + 1 + random.long_below(40),
     };
-    Frame::listing(sheet, bytes(random, length))
+    Frame::listing(sheet, random.bytes(length))
 }
 
 /// Sheets of so many bytes at most show nearly all that these calls have to show, and the frames are kept: two elements of four levels have
@@ -251,11 +251,7 @@ fn list(random: &mut Random, pair: &Pair, window: (u64, u64)) -> Vec<u8> {
     };
     let most = if random.once_in(60) { 1_024 } else { 64 };
     let length = 8 * slots.min(most) + if random.once_in(4) { random.long_below(8) } else { 0 };
-    bytes(random, length)
-}
-
-fn bytes(random: &mut Random, length: u64) -> Vec<u8> {
-    (0..length).map(|_| random.word() as u8).collect()
+    random.bytes(length)
 }
 
 /// Calls 6 to 9.
@@ -275,7 +271,7 @@ fn transfer(random: &mut Random, call: u8) -> Frame {
     }
     let refused = window.0 > window.1 || window.0 < start || window.1 > END;
     let required = if refused { [7, 5] } else { transfers::transfer(call, &pair).lengths(window) };
-    let buffers = lengths(random, required).map(|length| bytes(random, length));
+    let buffers = lengths(random, required).map(|length| random.bytes(length));
     let elements = pair.elements.map(|index| element_index(random, index));
     let sheets = if has_two_sheets(call) { both_sheets(random, &pair) } else { [only_sheet(random, &pair.layouts[0]), Vec::new()] };
     transfers::frame(call, sheets, elements, window, buffers)

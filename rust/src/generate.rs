@@ -1,10 +1,9 @@
 //! The frames: of each call the figures of 01 and the edges, and as many by chance as are asked for.
 
-use crate::figures::{figures, layout_f};
-use crate::frame::{self, Frame, CHECK, LONGEST_BLOB, MOST};
+use crate::figures::figures;
+use crate::frame::{self, Frame, CHECK};
 use crate::random::Random;
-use crate::write::sheet;
-use crate::{bounds, chance, edges, lengths, texts, transfers, unused, windows};
+use crate::{bad, bounds, chance, edges, lengths, texts, transfers, unused, windows};
 
 /// The calls that frames are made of, `CHECK` first: those that the program `answers` has. `calls::KNOWN` may have more, which are added
 /// here once `answers` has them, and the kept frames are made anew.
@@ -62,44 +61,8 @@ pub fn by_chance(call: u8, seed: u64, count: usize) -> Vec<Frame> {
     (0..count).map(|_| chance::frame(random, call)).collect()
 }
 
-/// Where a frame has its call and the length of its first sheet.
-const CALL: usize = 4;
-const LENGTH_1: usize = CALL + 1 + 4 * 8;
-
-/// How many bad ends there are.
-pub const BAD_ENDS: u64 = 9;
-
-/// Bytes that are no frame, and a frame after them that nobody may answer.
+/// Bytes that are no frame, and perhaps a frame after them that nobody may answer.
 pub fn bad_end(seed: u64) -> Vec<u8> {
-    let whole = Frame::check(sheet(&layout_f())).bytes();
-    let mut bad = whole.clone();
-    match seed % BAD_ENDS {
-        // Cut: these end the input.
-        0 => return whole[..whole.len() - 1].to_vec(),
-        1 => return whole[..3].to_vec(),
-        2 => return whole[..4].to_vec(),
-        // A sheet that runs past the frame's end, a frame that ends inside its last part, and one with a byte behind it.
-        3 => set(&mut bad, LENGTH_1, whole.len()),
-        4 => set(&mut bad, LENGTH_1, u32::MAX as usize),
-        5 => set(&mut bad, 0, whole.len() - 5),
-        6 => {
-            set(&mut bad, 0, whole.len() - 3);
-            bad.push(0);
-        }
-        // A frame that would be whole but for its length.
-        7 => {
-            bad = Frame::check(vec![0; LONGEST_BLOB]).bytes();
-            bad.push(0);
-            set(&mut bad, 0, MOST + 1);
-            set(&mut bad, LENGTH_1, LONGEST_BLOB + 1);
-        }
-        // An unknown call.
-        _ => bad[CALL] = 200,
-    }
-    [bad, whole].concat()
-}
-
-/// The 32-bit number at a place of a frame.
-fn set(frame: &mut [u8], at: usize, number: usize) {
-    frame[at..at + 4].copy_from_slice(&(number as u32).to_le_bytes());
+    let ends = bad::ends();
+    ends[(seed % ends.len() as u64) as usize].1.clone()
 }

@@ -1,8 +1,7 @@
 //! Makes frames with the lines that 01 asks for, and compares lines with them.
 
-use comparison::calls::answer;
-use comparison::frame::{Frame, BAD};
-use comparison::{generate, spelled};
+use comparison::frame::Frame;
+use comparison::{calls, generate, spelled};
 use std::error::Error;
 use std::fs;
 use std::process::ExitCode;
@@ -39,18 +38,11 @@ fn parsed(seed: &str, count: &str) -> Done<(u64, usize)> {
 }
 
 fn write_frames((seed, count): (u64, usize), frames_file: &str, lines_file: &str) -> Done<()> {
-    let mut bytes = Vec::new();
-    let mut lines = String::new();
-    for frame in generate::frames(generate::CALLS, seed, count) {
-        bytes.extend(frame.bytes());
-        lines += &answer(&frame).line();
-        lines.push('\n');
-    }
+    let frames = generate::frames(generate::CALLS, seed, count);
+    let mut bytes: Vec<u8> = frames.iter().flat_map(Frame::bytes).collect();
     bytes.extend(generate::bad_end(seed));
-    lines += BAD;
-    lines.push('\n');
+    fs::write(lines_file, calls::printed(&bytes))?;
     fs::write(frames_file, bytes)?;
-    fs::write(lines_file, lines)?;
     Ok(())
 }
 

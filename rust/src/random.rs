@@ -46,6 +46,10 @@ impl Random {
         list[self.index(list.len())]
     }
 
+    pub fn bytes(&mut self, length: u64) -> Vec<u8> {
+        (0..length).map(|_| self.word() as u8).collect()
+    }
+
     pub fn shuffle<T>(&mut self, list: &mut [T]) {
         for last in (1..list.len()).rev() {
             list.swap(last, self.index(last + 1));

@@ -1,12 +1,13 @@
 //! What the frames reach, that a frame can be read back, and that its bad ends are bad.
 
-use comparison::calls::{answer, KNOWN};
+use comparison::bad;
+use comparison::calls::{answer, printed, KNOWN};
 use comparison::element::Element;
 use comparison::frame::{has_two_sheets, Answer, Frame};
 use comparison::frame::{
     CHECK, EXACT, GATHER, INTERVAL_SPAN, INVERSE, LISTING, MOVE, NEXT, PACKED_LENGTH, PAIR_MOVE, SCATTER, SHARED_RUNS,
 };
-use comparison::generate::{bad_end, by_chance, frames, BAD_ENDS, CALLS, KEPT};
+use comparison::generate::{bad_end, by_chance, frames, CALLS, KEPT};
 use comparison::refusal::{BEFORE, BUFFER, COVER, ELEMENT, FAR, FOREIGN, HOLE, NO_FLAG, OVERLAP, ROOM, WINDOW};
 use comparison::sheet::read;
 use comparison::transfers::TRANSFERS;
@@ -263,11 +264,14 @@ fn every_frame_is_read_back_and_answered() {
 }
 
 #[test]
-fn a_bad_end_is_no_frame() {
-    for seed in 0..BAD_ENDS {
-        let known = Frame::read(&bad_end(seed)).is_some_and(|(frame, _)| KNOWN.contains(&frame.call));
-        assert!(!known, "seed {seed}");
+fn a_bad_end_is_no_frame_and_each_is_some_seeds() {
+    let ends = bad::ends();
+    for (seed, (name, end)) in ends.iter().enumerate() {
+        assert_eq!(bad_end(seed as u64), *end);
+        assert_eq!(printed(end), "bad frame\n", "{name}");
     }
+    // The kept frames' is whole but for its length.
+    assert_eq!(ends[(KEPT.0 % ends.len() as u64) as usize].0, "whole-but-a-byte-too-long");
 }
 
 #[test]
