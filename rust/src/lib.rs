@@ -3,8 +3,8 @@
 //! `calls` answers, by way of `sheet`, `pattern`, `element`, `runs`, `buffers` and `listing`; `write` makes sheets. What is asked are the
 //! `figures`, sheets at the `bounds`, calls at the `edges`, packed `lengths`, shared runs in `windows`, `transfers` from buffer to buffer,
 //! `texts` of listings, calls with something in what they leave `unused`, and calls by `chance` with sheets of all `shapes` and every
-//! `damage`, put together by `generate`, with a `bad` frame at the end. `frame` is how it is asked and answered; `spelled` says a frame in
-//! words.
+//! `damage`, put together by `generate`, with a `bad` frame at the end. `programs` has what else the built programs are run on. `frame` is
+//! how it is asked and answered; `spelled` says a frame in words.
 
 pub mod bad;
 pub mod bounds;
@@ -21,6 +21,7 @@ pub mod layout;
 pub mod lengths;
 pub mod listing;
 pub mod pattern;
+pub mod programs;
 pub mod random;
 pub mod refusal;
 pub mod runs;

@@ -1,15 +1,19 @@
 //! Makes frames with the lines that 01 asks for, and compares lines with them.
 
 use comparison::frame::Frame;
+use comparison::programs::{self, Case};
 use comparison::{calls, generate, spelled};
 use std::error::Error;
 use std::fs;
+use std::path::Path;
 use std::process::ExitCode;
 
 const USAGE: &str = "comparison frames SEED COUNT FRAMES-FILE LINES-FILE
     writes the frames of a seed, COUNT of them by chance, and the line expected for each
 comparison kept FRAMES-FILE LINES-FILE
     writes those that are kept beside the program `answers`
+comparison cases FOLDER
+    writes PROGRAM/NAME.in and PROGRAM/NAME.out for each input that a built program is tried on, and what it must print
 comparison lines FRAMES-FILE EXPECTED-FILE PRINTED-FILE
     compares the lines that were printed with those expected, and spells the first difference out";
 
@@ -19,6 +23,7 @@ fn main() -> ExitCode {
     let done = match words[..] {
         ["frames", seed, count, frames, lines] => parsed(seed, count).and_then(|of| write_frames(of, frames, lines)),
         ["kept", frames, lines] => write_frames(generate::KEPT, frames, lines),
+        ["cases", folder] => write_cases(Path::new(folder)),
         ["lines", frames, expected, printed] => compare(frames, expected, printed),
         _ => Err(USAGE.into()),
     };
@@ -43,6 +48,16 @@ fn write_frames((seed, count): (u64, usize), frames_file: &str, lines_file: &str
     bytes.extend(generate::bad_end(seed));
     fs::write(lines_file, calls::printed(&bytes))?;
     fs::write(frames_file, bytes)?;
+    Ok(())
+}
+
+fn write_cases(folder: &Path) -> Done<()> {
+    for Case { program, name, input, output } in programs::cases() {
+        let of_program = folder.join(program);
+        fs::create_dir_all(&of_program)?;
+        fs::write(of_program.join(format!("{name}.in")), input)?;
+        fs::write(of_program.join(format!("{name}.out")), output)?;
+    }
     Ok(())
 }
 
