@@ -88,7 +88,7 @@ fn the_windows_of_every_call_lie_at_every_edge() {
     }
 }
 
-/// Windows that no buffer holds: of more than 32 bits, of more than one pattern that is a buffer's length, and all of the file.
+/// Of more bytes than a frame has, of more than 32 bits count, and of all of the file.
 #[test]
 fn packed_lengths_are_asked_of_windows_that_no_buffer_holds() {
     let longer = |than: u64| met(PACKED_LENGTH, 0, |kept| kept.frame.b - kept.frame.a > than);
