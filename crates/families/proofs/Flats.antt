@@ -5,17 +5,17 @@ use Prim.Native.Nat.{ℕ, zero, suc, _+_, _-_, _^_, _≤_, _<_}
 use native.Mathlib.Nat.{zero-add}
 use native.Mathlib.Omega.{arith}
 use lib.ListN.{length, getD, replicate, length-append}
-use lib.Seq.{getD-at}
+use lib.Seq.{getD-at, getD-append-add}
 use Rattle.counting.specs.Gather.{tabulated}
 use Rattle.counting.proofs.Gathers.{length-tabulated, getD-tabulated, tabulated-map}
 use Rattle.families.specs.declared.Family.{Family}
 use Rattle.families.specs.declared.Element.{Element}
 use Rattle.families.specs.declared.Layout.{Layout}
 use Rattle.families.specs.Forest.{Forest, nil, node, has, sizeOf, WF, Sound}
-use Rattle.families.specs.Decoded.{noFamily, noElement, familyIn, siblings, forestAt, elementOf, treeOf, treesOf, selections, Layout·ok, rowOf, familyAt}
+use Rattle.families.specs.Decoded.{noFamily, noElement, familyIn, InUse, siblings, forestAt, elementOf, treeOf, treesOf, selections, Layout·ok, rowOf, familyAt}
 use Rattle.families.specs.Flat.{All, width, total, depth, flat, totals, flats, elementsAt, layoutOf}
 use Rattle.families.proofs.Forests.{wf-wider, size-le, size-some}
-use Rattle.families.proofs.Rows.{row-element}
+use Rattle.families.proofs.Rows.{row-element, none-there}
 use Rattle.families.proofs.Steps.{none-left, step}
 
 -- ---- how long the lists are
@@ -160,6 +160,16 @@ ok-trees levels bound t room a = record { room = room; some = λ e h. tops-some 
     each : (e : ℕ) → e < t .elements → Element·ok bound (treeOf levels t e)
     each e h =
         rw (tree-at levels t e h) at (all-at (Element·ok bound) (treesOf levels t) e a (omega (arith, length-tabulated 0 (t .elements) (treeOf levels t))))
+
+-- ---- THE LAYOUT OF TREES: as many families are in use as there are, and it meets the rules
+pub layout-used : (d : ℕ) (Fs : List Forest) → totals Fs ≤ 256 → InUse (totals Fs) (familyIn (layoutOf d Fs .family))
+unfolding layoutOf
+layout-used d Fs few = record {
+  most = few;
+  none = λ i h.
+      let behind : length (flats Fs) + (i - totals Fs) ≡ i = omega (arith, length-flats Fs) in
+      rw (← behind) (getD-append-add (flats Fs) (replicate (256 - totals Fs) noFamily) (i - totals Fs) noFamily ∙ none-there (256 - totals Fs) (i - totals Fs));
+}
 
 pub layout-ok : (levels bound d : ℕ) (Fs : List Forest) → Shallow levels Fs → All (Element·ok bound) Fs → length Fs ≤ 16 → Layout·ok levels bound (layoutOf d Fs)
 unfolding layoutOf

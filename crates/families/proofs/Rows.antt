@@ -1,17 +1,18 @@
 -- The families' numbers in a row look up as the array does. Assumes nothing.
 use mathlib.Core.Path.{fun-ext, _≡_, refl, sym, ap, _∙_}
 use mathlib.Core.List.{List, [], _∷_, _++_, map, append-nil, append-assoc}
-use Prim.Native.Nat.{ℕ, zero, suc, _+_, _*_, _≤_, _<_}
+use Prim.Native.Nat.{ℕ, zero, suc, _+_, _-_, _*_, _≤_, _<_}
 use native.Mathlib.Nat.{zero-add}
 use native.Mathlib.Numerals.{add-one, unary-clauses}
 use native.Mathlib.Omega.{arith}
-use lib.ListN.{length, replicate, set, take, drop, length-map, length-append, length-drop, length-set, drop-of-length-le}
-use lib.Seq.{sets-eq, length-take-le, take-suc, take-suc-set, take-all, take-at, drop-at, drop-drop}
+use lib.ListN.{length, getD, replicate, set, take, drop, length-map, length-append, length-drop, drop-of-length-le}
+use lib.Seq.{sets-eq, length-take-le, take-suc, take-at, drop-at, take-all, drop-drop}
 use Rattle.counting.specs.Gather.{tabulated}
-use Rattle.counting.proofs.Gathers.{tabulated-more, tabulated-list}
+use Rattle.counting.proofs.Gathers.{length-tabulated, getD-tabulated, tabulated-list}
 use Rattle.families.specs.declared.Family.{Family}
 use Rattle.families.specs.declared.Layout.{Layout}
 use Rattle.families.specs.Decoded.{noFamily, familyIn, forestAt, elementOf, treeOf, rowOf, familyAt}
+use Rattle.families.proofs.Filling.{Filled, filled-all}
 
 -- ---- how long the row is
 pub length-row : (fams : List Family) → length (rowOf fams) ≡ 6 * length fams
@@ -45,18 +46,35 @@ unfolding rowOf
 six-stored f six e =
     sets-eq (f .children ∷ f .span ∷ f .l ∷ f .r ∷ f .s ∷ f .n ∷ []) six 0 (omega arith) ∙ rw (drop-of-length-le six {i = 6} (omega arith)) refl
 
--- ---- the row of no family
-pub row-none : (n : ℕ) → rowOf (replicate n noFamily) ≡ replicate (6 * n) 0
+-- ---- the row of no family, and families in front of a row of zeros
+row-none : (n : ℕ) → rowOf (replicate n noFamily) ≡ replicate (6 * n) 0
 unfolding rowOf
 row-none zero = refl
 row-none (suc n) = let e : 6 * suc n ≡ suc (suc (suc (suc (suc (suc (6 * n)))))) = omega arith in rw (e, row-none n) refl
 
--- ---- the loop of `lay_out`: the families below i stand in front, and the rest is as it was
 pub row-append : (gs hs : List Family) → rowOf (gs ++ hs) ≡ rowOf gs ++ rowOf hs
 unfolding rowOf
 row-append [] hs = refl
 row-append (f ∷ gs) hs = ap (λ (l : List ℕ). f .children ∷ f .span ∷ f .l ∷ f .r ∷ f .s ∷ f .n ∷ l) (row-append gs hs)
 
+pub drop-replicate : {A : Type 0} (n m : ℕ) (a : A) → n ≤ m → drop n (replicate m a) ≡ replicate (m - n) a
+drop-replicate zero m a h = ap (λ (k : ℕ). replicate k a) {x = m} {y = m - 0} (omega arith)
+drop-replicate (suc n) zero a h = absurd (omega arith)
+drop-replicate (suc n) (suc m) a h = drop-replicate n m a (omega arith) ∙ ap (λ (k : ℕ). replicate k a) {x = m - n} {y = suc m - suc n} (omega arith)
+
+pub row-padded : (n k : ℕ) (fams : List Family) (row : List ℕ) → k ≤ n → row ≡ rowOf fams ++ drop (6 * k) (replicate (6 * n) 0) → row ≡ rowOf (fams ++ replicate (n - k) noFamily)
+row-padded n k fams row h e =
+    e ∙ ap (λ (l : List ℕ). rowOf fams ++ l)
+    (drop-replicate (6 * k) (6 * n) 0 (omega arith) ∙ ap (λ (j : ℕ). replicate j 0) {x = 6 * n - 6 * k} {y = 6 * (n - k)} (omega arith) ∙ sym (row-none (n - k)))
+    ∙ sym (row-append fams (replicate (n - k) noFamily))
+
+-- ---- room that is not in use
+pub none-there : (m i : ℕ) → familyIn (replicate m noFamily) i ≡ noFamily
+none-there zero i = refl
+none-there (suc m) zero = refl
+none-there (suc m) (suc i) = none-there m i
+
+-- ---- the loop of `lay_out`: the families below i stand in front, and the rest is as it was
 pub record Laid (fams : List Family) (old numbers : List ℕ) (i : ℕ) : Type 0 where
   pub upto : i ≤ length fams
   pub room : length old ≡ 6 * length fams
@@ -97,27 +115,13 @@ module _ {fams : List Family} {old numbers : List ℕ} {i : ℕ} (L : Laid fams 
   pub laid-all : length fams ≤ i → numbers ≡ rowOf fams
   laid-all h = L .is ∙ rw (take-all i fams h, drop-of-length-le old {i = 6 * i} (omega (arith, L .room))) (append-nil (rowOf fams))
 
--- ---- the loop of `taken_up`: the array's first i families are the row's
-pub record Taken (row : List ℕ) (n : ℕ) (fams : List Family) (i : ℕ) : Type 0 where
-  pub long : length fams ≡ n
-  pub upto : i ≤ n
-  pub is : take i fams ≡ tabulated 0 i (familyAt row)
+-- ---- the loop of `taken_up`: an array of no family is filled with the row's
+pub taken-at : (row : List ℕ) (n i : ℕ) → i < n → getD (tabulated 0 n (familyAt row)) i noFamily ≡ familyAt row i
+taken-at row n i h = getD-tabulated 0 n (familyAt row) i noFamily h ∙ rw zero-add refl
 
-pub taken-none : (row : List ℕ) (n : ℕ) (fams : List Family) → length fams ≡ n → Taken row n fams 0
-unfolding tabulated
-taken-none row n fams e = record { long = e; upto = omega arith; is = refl }
-
-pub taken-next : {row : List ℕ} {n : ℕ} {fams : List Family} {i : ℕ} (f : Family) → Taken row n fams i → i < n → f ≡ familyAt row i → Taken row n (set fams i f) (i + 1)
-taken-next {row} {n} {fams} {i} f T h e = record {
-  long = length-set fams i f ∙ T .long;
-  upto = omega arith;
-  is = rw (add-one i, take-suc-set fams i f (omega (arith, T .long)), tabulated-more 0 i (familyAt row), T .is, e, zero-add i) refl;
-}
-
-pub taken-all : {row : List ℕ} {n : ℕ} {fams : List Family} {i : ℕ} → Taken row n fams i → n ≤ i → fams ≡ tabulated 0 n (familyAt row)
-taken-all {row} {n} {fams} {i} T h =
-    let e : i ≡ n = omega (arith, T .upto) in
-    sym (take-all i fams (omega (arith, T .long))) ∙ T .is ∙ ap (λ (k : ℕ). tabulated 0 k (familyAt row)) e
+pub taken-all : (row : List ℕ) (n i : ℕ) (fams : List Family) → Filled noFamily (tabulated 0 n (familyAt row)) (replicate n noFamily) fams i
+    → ((x : ℕ) → i ≤ x → familyAt row x ≡ noFamily) → fams ≡ tabulated 0 n (familyAt row)
+taken-all row n i fams F none = filled-all F (λ x h l. none-there n x ∙ sym (none x h) ∙ sym (taken-at row n x (omega (arith, length-tabulated 0 n (familyAt row)))))
 
 -- ---- the length of an array of structs, as the record of its range has it
 pub mapped-long : {X Y : Type 0} (f : X → Y) (l : List X) (n : ℕ) → length (map f l) ≡ n → length l ≡ n

@@ -1,5 +1,6 @@
 -- A decoded layout: its families stand in an array, each followed by its children, and are read back as trees.
 -- Assumes nothing: these are definitions.
+use mathlib.Core.Path.{_≡_}
 use mathlib.Core.Bool.{Bool, true}
 use mathlib.Core.List.{List, [], _∷_}
 use Prim.Native.Nat.{ℕ, zero, suc, _+_, _-_, _*_, _^_, _≤_, _<_}
@@ -33,6 +34,11 @@ noElement = record { first = 0; tops = 0; span = 0 }
 -- family i of an array, and no family past its end
 abbrev pub familyIn : List Family → ℕ → Family
 familyIn families i = getD families i noFamily
+
+-- n of the 256 families that `look` finds by their index are in use: from n on there is none
+pub record InUse (n : ℕ) (look : ℕ → Family) : Type 0 where
+  pub most : n ≤ 256
+  pub none : (i : ℕ) → n ≤ i → look i ≡ noFamily
 
 -- k siblings, the first at i: a family's children follow it at once, and its next sibling stands `span` further on.
 -- `look` finds a family by its index, and `below` gives the children

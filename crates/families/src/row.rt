@@ -4,7 +4,7 @@ ghost use mathlib.Core.List.{[], _∷_};
 ghost use Prim.Native.Nat.{_+_, _*_, _^_, _<_};
 ghost use lib.ListN.{length};
 ghost use Rattle.counting.specs.Gather.{tabulated};
-ghost use Rattle.families.specs.Decoded.{familyAt, rowOf};
+ghost use Rattle.families.specs.Decoded.{InUse, familyAt, rowOf};
 use crate::Family;
 use crate::Layout;
 
@@ -23,9 +23,9 @@ pub fn lay_out(layout: Layout, numbers: &mut [u32])
     }
 }
 
-// The families of a row, back in an array.
-pub fn taken_up(numbers: &[u32]) -> [Family; 256]
-    requires { ⌜ length (now numbers) ≡ 1536 ⌝ }
+// The families of a row, back in an array; `count` of them are in use.
+pub fn taken_up(numbers: &[u32], count: usize) -> [Family; 256]
+    requires { ⌜ length (now numbers) ≡ 1536 ⌝ ∗ ⌜ InUse count (familyAt (now numbers)) ⌝ }
     ensures { λ r. ⌜ r ≡ tabulated 0 256 (familyAt (now (numbers .entry))) ⌝ }
 {
     let none = Family {
@@ -38,7 +38,7 @@ pub fn taken_up(numbers: &[u32]) -> [Family; 256]
     };
     let mut families = [none; 256];
     let mut at: usize = 0;
-    while at < 256 {
+    while at < count {
         families[at] = family_at(numbers, at);
         at += 1;
     }

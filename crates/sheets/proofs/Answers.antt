@@ -1,21 +1,20 @@
 -- From what was read to the answer: the arrays are the layout of the trees, and its pattern is judged. Assumes nothing.
 use mathlib.Core.Path.{_≡_, refl, sym, ap, _∙_}
 use mathlib.Core.List.{List, [], _∷_, _++_}
-use Prim.Native.Nat.{ℕ, zero, suc, _+_, _-_, _*_, _≤_, _<_}
+use Prim.Native.Nat.{ℕ, suc, _+_, _-_, _≤_, _<_}
 use native.Mathlib.Nat.{zero-add}
 use native.Mathlib.Omega.{arith}
-use lib.ListN.{length, drop, replicate, length-append, length-replicate}
+use lib.ListN.{length, replicate, length-append, length-replicate}
 use lib.Seq.{sets, sets-eq}
 use borrow.Author.Tests.{lt-ltb, le-ltb}
 use Rattle.counting.specs.Gather.{tabulated}
-use Rattle.families.specs.declared.Family.{Family}
 use Rattle.families.specs.declared.Layout.{Layout}
 use Rattle.families.specs.Forest.{Forest, nil, node, endOf}
-use Rattle.families.specs.Decoded.{noElement, noFamily, familyAt, rowOf, treesOf, Layout·ok}
+use Rattle.families.specs.Decoded.{noElement, noFamily, InUse, familyAt, rowOf, treesOf, Layout·ok}
 use Rattle.families.specs.Flat.{width, totals, flats, elementsAt, layoutOf, All}
 use Rattle.families.proofs.Forests.{wf-ended, end-le}
-use Rattle.families.proofs.Rows.{row-none, row-back, row-append}
-use Rattle.families.proofs.Flats.{Element·ok, length-flats, length-elements, trees-back, layout-ok}
+use Rattle.families.proofs.Rows.{row-at, row-back, drop-replicate, row-padded}
+use Rattle.families.proofs.Flats.{Element·ok, length-flats, length-elements, trees-back, layout-used, layout-ok}
 use Rattle.sheets.specs.declared.elements.Progress.{Progress}
 use Rattle.sheets.specs.declared.pattern.Uneven.{Uneven}
 use Rattle.sheets.specs.Refusals.{got, refused, HOLE-OR-OVERLAP, NO-FLAG}
@@ -28,22 +27,10 @@ use Rattle.sheets.specs.Steps.{ends, start, Progressed, WrittenAll, layo
 use Rattle.sheets.proofs.Tiling.{each-shallow}
 
 -- ---- unused room is blank
-drop-replicate : {A : Type 0} (n m : ℕ) (a : A) → n ≤ m → drop n (replicate m a) ≡ replicate (m - n) a
-drop-replicate zero m a h = ap (λ (k : ℕ). replicate k a) {x = m} {y = m - 0} (omega arith)
-drop-replicate (suc n) zero a h = absurd (omega arith)
-drop-replicate (suc n) (suc m) a h = drop-replicate n m a (omega arith) ∙ ap (λ (k : ℕ). replicate k a) {x = m - n} {y = suc m - suc n} (omega arith)
-
 padded : {A : Type 0} (n : ℕ) (a : A) (vs : List A) (k : ℕ) → length vs ≡ k → k ≤ n → sets (replicate n a) 0 vs ≡ vs ++ replicate (n - k) a
 padded {A = A} n a vs k e h =
     sets-eq vs (replicate n a) 0 (omega (arith, length-replicate n a))
     ∙ ap (λ (l : List A). vs ++ l) (drop-replicate (0 + length vs) n a (omega arith) ∙ ap (λ (j : ℕ). replicate j a) {x = n - (0 + length vs)} {y = n - k} (omega arith))
-
--- families in front of a row of zeros
-row-padded : (n k : ℕ) (fams : List Family) (row : List ℕ) → k ≤ n → row ≡ rowOf fams ++ drop (6 * k) (replicate (6 * n) 0) → row ≡ rowOf (fams ++ replicate (n - k) noFamily)
-row-padded n k fams row h e =
-    e ∙ ap (λ (l : List ℕ). rowOf fams ++ l)
-    (drop-replicate (6 * k) (6 * n) 0 (omega arith) ∙ ap (λ (j : ℕ). replicate j 0) {x = 6 * n - 6 * k} {y = 6 * (n - k)} (omega arith) ∙ sym (row-none (n - k)))
-    ∙ sym (row-append fams (replicate (n - k) noFamily))
 
 -- ---- THE LAYOUT: what was read, decoded, is the layout of its trees
 module _ (Fs : List Forest) (few : length Fs ≤ 16) (room : totals Fs ≤ 256) where
@@ -56,6 +43,13 @@ module _ (Fs : List Forest) (few : length Fs ≤ 16) (room : totals Fs ≤ 256) 
       let all = flats Fs ++ replicate (256 - totals Fs) noFamily in
       let long : length all ≡ 256 = length-append (flats Fs) (replicate (256 - totals Fs) noFamily) ∙ omega (arith, length-flats Fs, length-replicate (256 - totals Fs) noFamily) in
       ap (λ (n : ℕ). tabulated 0 n (familyAt (rowOf all))) (sym long) ∙ row-back all
+
+  -- behind its families the row holds none
+  pub row-used : (p : Progress) (row : List ℕ) → Progressed (got Fs) start p → WrittenAll (got Fs) (replicate 1536 0) row → InUse (p .families) (familyAt row)
+  unfolding Progressed start
+  row-used p row e w =
+      let U = layout-used 0 Fs room in
+      rw (e, zero-add (totals Fs), row-is 0 row w) (record { most = U .most; none = λ i h. row-at (layoutOf 0 Fs .family) i ∙ U .none i h })
 
   pub layout-is : (d : ℕ) (p : Progress) (row : List ℕ) → Progressed (got Fs) start p → WrittenAll (got Fs) (replicate 1536 0) row → layoutFrom d p row ≡ layoutOf d Fs
   unfolding Progressed start layoutFrom layoutOf WrittenAll

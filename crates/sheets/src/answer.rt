@@ -3,7 +3,7 @@ ghost use mathlib.Core.Path.{_≡_};
 ghost use mathlib.Core.List.{[]};
 ghost use lib.ListN.{length};
 ghost use Prim.Native.Nat.{_-_, _≤_};
-ghost use Rattle.families.specs.Decoded.{rowOf, Layout·ok};
+ghost use Rattle.families.specs.Decoded.{InUse, Layout·ok, rowOf, familyAt};
 ghost use Rattle.families.specs.Flat.{layoutOf};
 ghost use Rattle.sheets.specs.Sheet.{refusal, readSheet};
 ghost use Rattle.sheets.specs.Steps.{layoutFrom, judgedLayout};
@@ -32,15 +32,16 @@ pub fn read(sheet: &[u8]) -> Reading
 
 // The layout of elements whose families' numbers stand in a row.
 pub fn decoded(displacement: u32, all: Progress, numbers: &[u32]) -> Layout
-    requires { ⌜ length (now numbers) ≡ 1536 ⌝ }
+    requires { ⌜ length (now numbers) ≡ 1536 ⌝ ∗ ⌜ InUse (all .families) (familyAt (now numbers)) ⌝ }
     ensures { λ r. ⌜ r ≡ layoutFrom displacement all (now (numbers .entry)) ⌝ }
 {
     let element = all.element;
-    let family = families::taken_up(numbers);
+    let count = all.families as usize;
+    let family = families::taken_up(numbers, count);
     Layout {
         displacement,
         elements: all.elements,
-        families: all.families as usize,
+        families: count,
         element,
         family,
     }

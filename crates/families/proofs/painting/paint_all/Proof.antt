@@ -12,7 +12,7 @@ use Rattle.families.proofs.painting.paint_all.Statement.{statement}
 use Rattle.families.proofs.painting.paint_all.Tie as tie
 
 abbrev Inv-loop : tie.InvT-loop
-Inv-loop table₀ me i₀ table i = Filled (painted (λ _. true) me table₀) table₀ table i
+Inv-loop table₀ me i₀ table i = Filled 0 (painted (λ _. true) me table₀) table₀ table i
 
 abbrev μ-loop : tie.MeasureT-loop
 μ-loop table₀ me i₀ table i = length table - i
@@ -47,7 +47,7 @@ same-length : tie.Need-same-length Inv-loop μ-loop
 same-length c = omega arith
 
 returns : tie.Need-returns Inv-loop μ-loop
-returns c = filled-all (c .before .loop .inv) (omega arith)
+returns c = filled-all (c .before .loop .inv) (λ x h l. absurd (omega arith))
 
 pub paint-all-spec : {M : Type 1} → statement M
 paint-all-spec =

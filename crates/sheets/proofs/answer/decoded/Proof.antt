@@ -5,15 +5,15 @@ use borrow.Author.Needs.{needs}
 use Rattle.sheets.proofs.answer.decoded.Statement.{statement}
 use Rattle.sheets.proofs.answer.decoded.Tie as tie
 
+cast-count : tie.Need-cast-count
+cast-count c = search needs
+
 taken-up-requires : tie.Need-taken-up-requires
 taken-up-requires c κs = search needs
 
-cast-t6 : tie.Need-cast-t6
-cast-t6 c = search needs
-
 returns : tie.Need-returns
 unfolding layoutFrom
-returns c = rw (c .before .taken-up .ensures) refl
+returns c = rw (c .taken-up .ensures) refl
 
 pub decoded-spec : {M : Type 1} → statement M
-decoded-spec = tie.close (tie.spec taken-up-requires cast-t6 returns)
+decoded-spec = tie.close (tie.spec cast-count taken-up-requires returns)

@@ -11,7 +11,7 @@ use Rattle.families.specs.Flat.{layoutOf}
 use Rattle.sheets.proofs.Shapes.{SheetRead, sheet-read, header-inside}
 use Rattle.sheets.proofs.Numbered.{sheet-numbered}
 use Rattle.sheets.proofs.SheetSteps.{ProgressGot, progress-got, progress-refused}
-use Rattle.sheets.proofs.Answers.{answer-refused, answer-got, layout-is, row-is, ends-some, ends-most, ok-ended, judged-is, end-is}
+use Rattle.sheets.proofs.Answers.{answer-refused, answer-got, layout-is, row-is, row-used, ends-some, ends-most, ok-ended, judged-is, end-is}
 use borrow.Author.Needs.{needs}
 use Rattle.sheets.proofs.answer.read.Statement.{statement}
 use Rattle.sheets.proofs.answer.read.Tie as tie
@@ -57,7 +57,10 @@ slice-aggregate-decoded : tie.Need-slice-aggregate-decoded
 slice-aggregate-decoded c = search needs
 
 decoded-requires : tie.Need-decoded-requires
-decoded-requires c κs = search needs
+decoded-requires c κs =
+    let s = c .before .before in
+    let S = sheet-at s in
+    (search needs, row-used _ (S .most) (S .room) _ _ (got-at s .progress) (written-at s))
 
 cast-judge : tie.Need-cast-judge
 cast-judge c = let s = c .before .before .before .before in omega (arith, end-is _ _ (got-at s .progress), ends-most _ (sheet-at s .each))
