@@ -123,7 +123,7 @@ selections-trees levels t = sym (tabulated-map has 0 (t .elements) (treeOf level
 
 -- ---- the rules of a layout: with a wider bound, and as the rules of its trees
 pub ok-wider : (levels a b : ℕ) (t : Layout) → a ≤ b → Layout·ok levels a t → Layout·ok levels b t
-ok-wider levels a b t h ok = record { room = ok .room; some = ok .some; ruled = λ e l. wf-wider (treeOf levels t e) (omega arith) h (ok .ruled e l) }
+ok-wider levels a b t h ok = record { room = ok .room; used = ok .used; some = ok .some; ruled = λ e l. wf-wider (treeOf levels t e) (omega arith) h (ok .ruled e l) }
 
 pub trees-ok : (levels bound : ℕ) (t : Layout) → Layout·ok levels bound t → All (WF 0 bound) (treesOf levels t)
 unfolding treesOf
@@ -153,9 +153,10 @@ module _ (levels bound : ℕ) (t : Layout) (ok : Layout·ok levels bound t) (e :
     pub element-small : size ≤ bound + 1
     element-small = omega (arith, element-size, size-le 0 bound (treeOf levels t e) (ok .ruled e h))
 
-pub ok-trees : (levels bound : ℕ) (t : Layout) → t .elements ≤ 16 → All (Element·ok bound) (treesOf levels t) → Layout·ok levels bound t
+pub ok-trees : (levels bound : ℕ) (t : Layout) → t .elements ≤ 16 → InUse (t .families) (familyIn (t .family)) → All (Element·ok bound) (treesOf levels t)
+    → Layout·ok levels bound t
 unfolding treesOf
-ok-trees levels bound t room a = record { room = room; some = λ e h. tops-some levels (familyIn (t .family)) _ _ (each e h .0); ruled = λ e h. each e h .1 }
+ok-trees levels bound t room used a = record { room = room; used = used; some = λ e h. tops-some levels (familyIn (t .family)) _ _ (each e h .0); ruled = λ e h. each e h .1 }
   where
     each : (e : ℕ) → e < t .elements → Element·ok bound (treeOf levels t e)
     each e h =
@@ -171,6 +172,7 @@ layout-used d Fs few = record {
       rw (← behind) (getD-append-add (flats Fs) (replicate (256 - totals Fs) noFamily) (i - totals Fs) noFamily ∙ none-there (256 - totals Fs) (i - totals Fs));
 }
 
-pub layout-ok : (levels bound d : ℕ) (Fs : List Forest) → Shallow levels Fs → All (Element·ok bound) Fs → length Fs ≤ 16 → Layout·ok levels bound (layoutOf d Fs)
+pub layout-ok : (levels bound d : ℕ) (Fs : List Forest) → Shallow levels Fs → All (Element·ok bound) Fs → length Fs ≤ 16 → totals Fs ≤ 256
+    → Layout·ok levels bound (layoutOf d Fs)
 unfolding layoutOf
-layout-ok levels bound d Fs s a room = ok-trees levels bound (layoutOf d Fs) room (rw (trees-back levels d Fs s) a)
+layout-ok levels bound d Fs s a room few = ok-trees levels bound (layoutOf d Fs) room (layout-used d Fs few) (rw (trees-back levels d Fs s) a)

@@ -1,17 +1,17 @@
 -- The families' numbers in a row look up as the array does. Assumes nothing.
 use mathlib.Core.Path.{fun-ext, _≡_, refl, sym, ap, _∙_}
-use mathlib.Core.List.{List, [], _∷_, _++_, map, append-nil, append-assoc}
+use mathlib.Core.List.{List, [], _∷_, _++_, map, append-assoc}
 use Prim.Native.Nat.{ℕ, zero, suc, _+_, _-_, _*_, _≤_, _<_}
 use native.Mathlib.Nat.{zero-add}
 use native.Mathlib.Numerals.{add-one, unary-clauses}
 use native.Mathlib.Omega.{arith}
-use lib.ListN.{length, getD, replicate, set, take, drop, length-map, length-append, length-drop, drop-of-length-le}
-use lib.Seq.{sets-eq, length-take-le, take-suc, take-at, drop-at, take-all, drop-drop}
+use lib.ListN.{length, getD, replicate, set, take, drop, take-append-drop, length-map, length-append, length-drop, length-replicate, drop-of-length-le}
+use lib.Seq.{sets-eq, length-take-le, take-suc, take-at, drop-at, drop-drop, getD-drop, ext-getD}
 use Rattle.counting.specs.Gather.{tabulated}
 use Rattle.counting.proofs.Gathers.{length-tabulated, getD-tabulated, tabulated-list}
 use Rattle.families.specs.declared.Family.{Family}
 use Rattle.families.specs.declared.Layout.{Layout}
-use Rattle.families.specs.Decoded.{noFamily, familyIn, forestAt, elementOf, treeOf, rowOf, familyAt}
+use Rattle.families.specs.Decoded.{noFamily, familyIn, InUse, forestAt, elementOf, treeOf, rowOf, familyAt}
 use Rattle.families.proofs.Filling.{Filled, filled-all}
 
 -- ---- how long the row is
@@ -74,6 +74,15 @@ none-there zero i = refl
 none-there (suc m) zero = refl
 none-there (suc m) (suc i) = none-there m i
 
+used-padded : (fams : List Family) (n k : ℕ) → length fams ≡ n → ((i : ℕ) → k ≤ i → familyIn fams i ≡ noFamily)
+    → take k fams ++ replicate (n - k) noFamily ≡ fams
+used-padded fams n k e none =
+    let behind : drop k fams ≡ replicate (n - k) noFamily =
+    ext-getD noFamily (drop k fams) (replicate (n - k) noFamily)
+    (omega (arith, length-drop k fams, length-replicate (n - k) noFamily))
+    (λ i _. getD-drop k fams i noFamily ∙ none (k + i) (omega arith) ∙ sym (none-there (n - k) i)) in
+    ap (λ (l : List Family). take k fams ++ l) (sym behind) ∙ take-append-drop k fams
+
 -- ---- the loop of `lay_out`: the families below i stand in front, and the rest is as it was
 pub record Laid (fams : List Family) (old numbers : List ℕ) (i : ℕ) : Type 0 where
   pub upto : i ≤ length fams
@@ -112,8 +121,10 @@ module _ {fams : List Family} {old numbers : List ℕ} {i : ℕ} (L : Laid fams 
       let more : rowOf (take (i + 1) fams) ≡ done ++ one = rw (add-one i, take-suc fams i no h) (row-append (take i fams) (familyIn fams i ∷ [])) in
       record { upto = omega arith; room = L .room; is = rw (before, after, e, more) (sym (append-assoc done one (drop (6 * (i + 1)) old))) }
 
-  pub laid-all : length fams ≤ i → numbers ≡ rowOf fams
-  laid-all h = L .is ∙ rw (take-all i fams h, drop-of-length-le old {i = 6 * i} (omega (arith, L .room))) (append-nil (rowOf fams))
+  -- where all that are in use stand in a row of zeros, so does no family in the rest of it
+  pub laid-all : length fams ≡ 256 → old ≡ replicate 1536 0 → InUse i (familyIn fams) → numbers ≡ rowOf fams
+  laid-all long zeros used =
+      row-padded 256 i (take i fams) numbers (used .most) (L .is ∙ rw zeros refl) ∙ ap rowOf (used-padded fams 256 i long (used .none))
 
 -- ---- the loop of `taken_up`: an array of no family is filled with the row's
 pub taken-at : (row : List ℕ) (n i : ℕ) → i < n → getD (tabulated 0 n (familyAt row)) i noFamily ≡ familyAt row i

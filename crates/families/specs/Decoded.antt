@@ -70,9 +70,10 @@ treesOf levels t = tabulated 0 (t .elements) (treeOf levels t)
 unfoldable pub selections : (levels : ℕ) → Layout → List (ℕ → Bool)
 selections levels t = tabulated 0 (t .elements) (λ e. has (treeOf levels t e))
 
--- every element has a family, and meets the sheet rules
+-- every element has a family, and meets the sheet rules; unused room holds no family
 pub record Layout·ok (levels bound : ℕ) (t : Layout) : Type 0 where
   pub room : t .elements ≤ 16
+  pub used : InUse (t .families) (familyIn (t .family))
   pub some : (e : ℕ) → e < t .elements → 1 ≤ elementOf t e .tops
   pub ruled : (e : ℕ) → e < t .elements → WF 0 bound (treeOf levels t e)
 

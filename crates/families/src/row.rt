@@ -2,19 +2,20 @@
 ghost use mathlib.Core.Path.{_≡_};
 ghost use mathlib.Core.List.{[], _∷_};
 ghost use Prim.Native.Nat.{_+_, _*_, _^_, _<_};
-ghost use lib.ListN.{length};
+ghost use lib.ListN.{length, replicate};
 ghost use Rattle.counting.specs.Gather.{tabulated};
-ghost use Rattle.families.specs.Decoded.{InUse, familyAt, rowOf};
+ghost use Rattle.families.specs.Decoded.{familyIn, InUse, familyAt, rowOf};
 use crate::Family;
 use crate::Layout;
 
-// Lays a layout's families out in a row.
+// Lays a layout's families out in a row of zeros, which is what unused room has.
 pub fn lay_out(layout: Layout, numbers: &mut [u32])
-    requires { ⌜ length (now numbers) ≡ 1536 ⌝ }
+    requires { ⌜ InUse (layout .families) (familyIn (layout .family)) ⌝ ∗ ⌜ now numbers ≡ replicate 1536 0 ⌝ }
     ensures { λ _. ⌜ now (numbers .exit) ≡ rowOf (layout .family) ⌝ }
 {
+    let families = layout.families;
     let mut i: usize = 0;
-    while i < 256 {
+    while i < families {
         let f = layout.family[i];
         let from = 6 * i;
         let to = from + 6;

@@ -101,7 +101,7 @@ module _ (r : Reading) (xs : List ℕ) (is : r ≡ readSheet xs) where
     listed-refused fault x = rw (← is, ne-eqb (r .number) 0 fault) (put-within 1761 (omega arith) x)
 
   -- an accepted sheet has what the lines ask for
-  accepted : r .number ≡ 0 → Accepted r
+  pub accepted : r .number ≡ 0 → Accepted r
   accepted fine = rw is (accepted-law xs (rw is at fine))
 
   pub all-listable : r .number ≡ 0 → (row : List ℕ) → row ≡ rowOf (r .layout .family) → AllListable (r .layout) row

@@ -12,7 +12,7 @@ use Rattle.counting.proofs.Cases.{byTest}
 use Rattle.counting.proofs.Stretches.{stretch-is}
 use Rattle.families.specs.Forest.{Forest, has}
 use Rattle.families.specs.Decoded.{elementOf, treeOf, treesOf, selections, Layout·ok}
-use Rattle.families.specs.Flat.{All, total, layoutOf}
+use Rattle.families.specs.Flat.{All, total, totals, layoutOf}
 use Rattle.families.proofs.Flats.{trees-back, element-span, selections-trees, layout-ok}
 use Rattle.sheets.specs.declared.Reading.{Reading}
 use Rattle.sheets.specs.Refusals.{Read, got, refused}
@@ -60,7 +60,7 @@ accepted-sheet xs is-zero = by (elementsOf xs) refl is-zero
 
 -- ---- THE LAWS
 pub record Accepted (r : Reading) : Type 0 where
-  -- the sheet rules hold of each element's tree, and there are 1 to 16 elements
+  -- the sheet rules hold of each element's tree, there are 1 to 16 elements, and unused room holds no family
   pub ok : Layout·ok 4 65535 (r .layout)
   pub some : 1 ≤ r .layout .elements
   -- an element's span counts the families of all levels
@@ -75,7 +75,7 @@ pub record Accepted (r : Reading) : Type 0 where
   -- so every file offset from the displacement on is in exactly one element
   pub file : (x : ℕ) → r .layout .displacement ≤ x → times (map (owns (r .layout .displacement) (r .size)) (selections 4 (r .layout))) x ≡ 1
 
-module _ (d : ℕ) (Fs : List Forest) (each : All ElementRules Fs) (some : 1 ≤ length Fs) (few : length Fs ≤ 16) (tiled : Tiled Fs) where
+module _ (d : ℕ) (Fs : List Forest) (each : All ElementRules Fs) (some : 1 ≤ length Fs) (few : length Fs ≤ 16) (room : totals Fs ≤ 256) (tiled : Tiled Fs) where
   back : treesOf 4 (layoutOf d Fs) ≡ Fs
   back = trees-back 4 d Fs (each-shallow Fs each)
 
@@ -87,7 +87,7 @@ module _ (d : ℕ) (Fs : List Forest) (each : All ElementRules Fs) (some : 1 ≤
   accepted-laws =
       let least = size-least 65535 Fs (each-ok Fs each) some in
       record {
-        ok = layout-ok 4 65535 d Fs (each-shallow Fs each) (each-ok Fs each) few;
+        ok = layout-ok 4 65535 d Fs (each-shallow Fs each) (each-ok Fs each) few room;
         some = some;
         spans = element-span 4 d Fs (each-shallow Fs each);
         size = ap sizes (sym back);
@@ -102,4 +102,4 @@ pub accepted-law : (xs : List ℕ) → readSheet xs .number ≡ 0 → Accepted (
 accepted-law xs is-zero =
     let A = accepted-sheet xs is-zero in
     let S = sheet-read xs (A .elements) (A .read) in
-    rw (A .is) (accepted-laws (le32 xs 4) (A .elements) (S .each) (S .least) (S .most) (A .tiled))
+    rw (A .is) (accepted-laws (le32 xs 4) (A .elements) (S .each) (S .least) (S .most) (S .room) (A .tiled))

@@ -88,10 +88,11 @@ unfolding All ends
 ends-most [] e = omega arith
 ends-most (F ∷ Fs) e = omega (arith, end-le 0 65535 F (e .0 .families), ends-most Fs (e .1))
 
-pub ok-ended : (d : ℕ) (Fs : List Forest) (end : ℕ) → end ≡ ends Fs → All ElementRules Fs → 1 ≤ length Fs → length Fs ≤ 16 → Layout·ok 4 (end - 1) (layoutOf d Fs)
-ok-ended d Fs end q e some few =
+pub ok-ended : (d : ℕ) (Fs : List Forest) (end : ℕ) → end ≡ ends Fs → All ElementRules Fs → 1 ≤ length Fs → length Fs ≤ 16 → totals Fs ≤ 256
+    → Layout·ok 4 (end - 1) (layoutOf d Fs)
+ok-ended d Fs end q e some few room =
     let h = ends-some Fs e some in
-    layout-ok 4 (end - 1) d Fs (each-shallow Fs e) (each-ended Fs (end - 1) e (omega arith)) few
+    layout-ok 4 (end - 1) d Fs (each-shallow Fs e) (each-ended Fs (end - 1) e (omega arith)) few room
 
 -- ---- NUMBER 11
 pub judged-is : (d : ℕ) (Fs : List Forest) → All ElementRules Fs → judgedLayout (layoutOf d Fs) ≡ judged d Fs

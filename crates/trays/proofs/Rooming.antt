@@ -34,7 +34,7 @@ module _ {t : Layout} {size : ℕ} (P : Pattern·ok t size) {room e : ℕ} (R : 
 
   pub rooming-end : t .elements ≤ e → FitsAll t size room
   rooming-end all = record {
-    ruled = record { room = P .ok .room; some = P .ok .some; ruled = λ i l. R .ruled i (omega arith) };
+    ruled = record { room = P .ok .room; used = P .ok .used; some = P .ok .some; ruled = λ i l. R .ruled i (omega arith) };
     held = R .held (omega (arith, elements-some));
   }
 

@@ -1,7 +1,8 @@
 -- `put_listing` meets its contract. Assumes nothing.
+use mathlib.Core.Path.{refl}
 use native.Mathlib.Omega.{arith}
 use borrow.Author.Needs.{needs}
-use Rattle.lines.proofs.Lines.{listed-accepted, listed-refused, all-listable}
+use Rattle.lines.proofs.Lines.{accepted, listed-accepted, listed-refused, all-listable}
 use Rattle.lines.proofs.listing.put_listing.Statement.{statement}
 use Rattle.lines.proofs.listing.put_listing.Tie as tie
 
@@ -21,7 +22,7 @@ slice-aggregate-lay-out : tie.Need-slice-aggregate-lay-out
 slice-aggregate-lay-out c = search needs
 
 lay-out-requires : tie.Need-lay-out-requires
-lay-out-requires c κs = search needs
+lay-out-requires c κs = (accepted _ _ (c .before .before .before .before .read .ensures) (c .before .before .if1 .left) .ok .used, refl)
 
 slice-aggregate-put-accepted : tie.Need-slice-aggregate-put-accepted
 slice-aggregate-put-accepted c = search needs

@@ -74,7 +74,7 @@ judge-requires c κs =
     let S = sheet-at s in
     let e = end-is _ _ (got-at s .progress) in
     let Fs = got-at s .elements in
-    let ok = ok-ended _ Fs _ e (S .each) (S .least) (S .most) in
+    let ok = ok-ended _ Fs _ e (S .each) (S .least) (S .most) (S .room) in
     rw (layout-at (c .before .before))
     (row-is Fs (S .most) (S .room) _ _ (written-at s), (omega (arith, e, ends-some Fs (S .each) (S .least)), (omega (arith, e, ends-most Fs (S .each)), ok)))
 

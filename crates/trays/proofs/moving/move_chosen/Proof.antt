@@ -1,4 +1,5 @@
 -- `move_chosen` meets its contract: either size of tables has room for a pattern of each layout. Assumes nothing.
+use mathlib.Core.Path.{refl}
 use native.Mathlib.Omega.{arith}
 use borrow.Author.Needs.{needs}
 use Rattle.trays.proofs.Noting.{fits-always, moves-ask, moved-empty}
@@ -15,13 +16,13 @@ slice-aggregate-lay-out : tie.Need-slice-aggregate-lay-out
 slice-aggregate-lay-out c = search needs
 
 lay-out-requires : tie.Need-lay-out-requires
-lay-out-requires c κs = search needs
+lay-out-requires c κs = (c .before .before .before .before .before .pre .0 .pattern .ok .used, refl)
 
 slice-aggregate-lay-out-2 : tie.Need-slice-aggregate-lay-out-2
 slice-aggregate-lay-out-2 c = search needs
 
 lay-out-requires-2 : tie.Need-lay-out-requires-2
-lay-out-requires-2 c κs = search needs
+lay-out-requires-2 c κs = (c .before .before .before .before .before .before .before .before .pre .1 .0 .pattern .ok .used, refl)
 
 slice-aggregate-fits-all : tie.Need-slice-aggregate-fits-all
 slice-aggregate-fits-all c = search needs
