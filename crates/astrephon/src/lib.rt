@@ -15,6 +15,7 @@ pub use carrying::scatter;
 pub use checking::check;
 pub use families::FileOffset;
 pub use families::SubfileOffset;
+pub use families::TrayPlace;
 pub use lines::LONGEST_LISTING;
 pub use listing::list_sheet;
 pub use mapping::exact;

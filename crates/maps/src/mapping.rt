@@ -1,6 +1,6 @@
 // Mapping: whole periods by division, and the place in one by the families.
 ghost use mathlib.Core.Path.{_≡_};
-ghost use Prim.Native.Nat.{_^_, _<_};
+ghost use Prim.Native.Nat.{_+_, _-_, _^_, _≤_, _<_};
 ghost use Rattle.counting.specs.Count.{countBelow};
 ghost use Rattle.families.specs.Decoded.{rowOf, Layout·ok};
 ghost use Rattle.maps.specs.Selected.{belongs, Byte, Selection·ok, selectionOf};
@@ -8,6 +8,7 @@ use crate::Selection;
 use families::FileOffset;
 use families::Layout;
 use families::SubfileOffset;
+use families::TrayPlace;
 
 // Whether the selection has file offset x.
 pub fn belongs_to(numbers: &[u32], s: Selection, x: FileOffset) -> bool
@@ -54,6 +55,14 @@ pub fn file_inverse(numbers: &[u32], s: Selection, y: SubfileOffset) -> FileOffs
     let whole = byte / size;
     let place = families::inverse(numbers, s.first, s.tops, s.levels, byte % size);
     FileOffset(from + (whole * period + place as u64))
+}
+
+// The place in a tray of byte y of a subfile. The subfile's part of the tray starts at `part`, with byte `first`: the window may start late.
+pub fn tray_place(part: TrayPlace, first: SubfileOffset, y: SubfileOffset) -> TrayPlace
+    requires { ⌜ first .0 ≤ y .0 ⌝ ∗ ⌜ part .0 + y .0 < 2 ^ 64 ⌝ }
+    ensures { λ r. ⌜ r .0 ≡ part .0 + (y .0 - first .0) ⌝ }
+{
+    TrayPlace(part.0 + (y.0 - first.0))
 }
 
 // What element `element` of a layout selects of the file, where the layout's pattern has `size` offsets.

@@ -43,10 +43,7 @@ pub fn range_fault(most: u64, from: u32, a: FileOffset, b: FileOffset) -> u8
     if a.0 < from as u64 {
         return crate::BEFORE;
     }
-    if most < b.0 {
-        return crate::FAR;
-    }
-    0
+    if most < b.0 { crate::FAR } else { 0 }
 }
 
 // Of the lengths of a file buffer and a packed one, where the window has `bytes` bytes, `count` of them the element's.

@@ -4,6 +4,7 @@ ghost use Prim.Native.Nat.{_+_, _≤_, _<_};
 ghost use lib.ListN.{length, getD};
 ghost use Rattle.parts.specs.Pieces.{Piece·ok, pieceAt, Source·ok, sourceOf};
 use crate::shares;
+use families::SubfileOffset;
 use families::TrayPlace;
 use maps::Window;
 
@@ -53,8 +54,8 @@ pub fn source_of(ranks: &[u16], shares: &[u64], piece: Piece) -> TrayPlace
 {
     let place = piece.place;
     let share = shares::share_at(shares, piece.owner - 1);
-    let rank = piece.whole * share.size + wide(ranks[place]);
-    TrayPlace(share.start.0 + (rank - share.before.0))
+    let rank = SubfileOffset(piece.whole * share.size + wide(ranks[place]));
+    maps::tray_place(share.start, share.before, rank)
 }
 
 // How far on the owner's next offset after a piece can be: one that is shorter than the run has ended its owner's stretch.
