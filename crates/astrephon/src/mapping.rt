@@ -59,10 +59,11 @@ pub fn inverse(sheet: &[u8], element: u64, y: SubfileOffset) -> Located
     if refusal.number != 0 {
         return Located::Refused(refusal);
     }
-    if crate::LIMIT <= y.0 {
+    let byte = y.0;
+    if crate::LIMIT <= byte {
         return Located::Refused(openings::call_refusal(crate::FAR, 0));
     }
-    let place = maps::file_inverse(&numbers, opening.selection, y);
+    let place = maps::file_inverse(&numbers, opening.selection, SubfileOffset(byte));
     if crate::LIMIT <= place.0 {
         return Located::Refused(openings::call_refusal(crate::FAR, 0));
     }

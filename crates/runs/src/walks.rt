@@ -38,14 +38,12 @@ pub fn next_side(table: &[u8], s: Selection, side: Side) -> Side
     }
 }
 
-// Whether both tables mark their places.
-pub fn in_both(table1: &[u8], one: Side, table2: &[u8], two: Side) -> bool
-    requires { ⌜ Marks (now table1) (one .place) ⌝ ∗ ⌜ Marks (now table2) (two .place) ⌝ }
-    ensures { λ r. ⌜ r ≡ (marked (now (table1 .entry)) (one .place) && marked (now (table2 .entry)) (two .place)) ⌝ }
+// Whether both tables mark a place.
+pub fn in_both(table1: &[u8], place1: usize, table2: &[u8], place2: usize) -> bool
+    requires { ⌜ Marks (now table1) place1 ⌝ ∗ ⌜ Marks (now table2) place2 ⌝ }
+    ensures { λ r. ⌜ r ≡ (marked (now (table1 .entry)) place1 && marked (now (table2 .entry)) place2) ⌝ }
 {
-    let at1 = one.place;
-    let at2 = two.place;
-    table1[at1] + table2[at2] == 2
+    table1[place1] + table2[place2] == 2
 }
 
 // Goes on while both selections have the offset, or while not both do, but not past `end`.
@@ -62,11 +60,14 @@ pub fn pass(
     ensures { λ r. ⌜ Passed s1 s2 (now (table1 .entry)) (now (table2 .entry)) wanted (end .0) (walk .x .0) r ⌝ }
 {
     let stop = end.0;
-    let mut x = walk.x.0;
+    let from = walk.x.0;
+    let mut x = from;
     let mut one = walk.one;
     let mut two = walk.two;
     while x < stop {
-        if in_both(table1, one, table2, two) != wanted {
+        let place1 = one.place;
+        let place2 = two.place;
+        if in_both(table1, place1, table2, place2) != wanted {
             return Walk {
                 x: FileOffset(x),
                 one,

@@ -1,6 +1,6 @@
 -- `in_both` meets its contract. Assumes nothing.
-use borrow.Author.Needs.{needs}
 use Rattle.runs.proofs.Sides.{marks-sum}
+use borrow.Author.Needs.{needs}
 use Rattle.runs.proofs.walks.in_both.Statement.{statement}
 use Rattle.runs.proofs.walks.in_both.Tie as tie
 

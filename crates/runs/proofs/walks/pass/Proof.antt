@@ -6,10 +6,10 @@ use Rattle.runs.proofs.walks.pass.Statement.{statement}
 use Rattle.runs.proofs.walks.pass.Tie as tie
 
 abbrev Inv-loop : tie.InvT-loop
-Inv-loop table1 s1 table2 s2 wanted stop x₀ one₀ two₀ x one two = Passing s1 s2 table1 table2 wanted stop x₀ x one two
+Inv-loop table1 s1 table2 s2 wanted stop from x₀ one₀ two₀ x one two = Passing s1 s2 table1 table2 wanted stop from x one two
 
 abbrev μ-loop : tie.MeasureT-loop
-μ-loop table1 s1 table2 s2 wanted stop x₀ one₀ two₀ x one two = stop - x
+μ-loop table1 s1 table2 s2 wanted stop from x₀ one₀ two₀ x one two = stop - x
 
 loop-holds : tie.Need-loop-holds Inv-loop μ-loop
 loop-holds c = passing-start _ (c .before .before .before .before .pre)
