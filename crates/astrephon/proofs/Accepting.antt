@@ -1,4 +1,4 @@
--- Where a call moves bytes: accepted sheets, an element that is there, a window that starts in them, and buffers of the lengths asked for. Assumes nothing.
+-- WHERE A CALL MOVES BYTES: accepted sheets, an element that is there, a window that starts in them, and buffers of the lengths asked for. Assumes nothing.
 use mathlib.Core.Path.{_≡_, refl, sym, _∙_}
 use mathlib.Core.List.{List, [], _∷_}
 use Prim.Native.Nat.{ℕ, _-_, _≤_, _<_, max}
@@ -20,7 +20,11 @@ use Rattle.openings.proofs.PairOpens.{sheets-on, elements-on}
 use Rattle.openings.proofs.Faults.{range-fine, buffer-fine, trays-buffers}
 use Rattle.astrephon.specs.Carries.{gatheredOf, scatteredOf, gatheredCall, scatteredCall}
 use Rattle.astrephon.specs.Moves.{layoutOf, trayTests, movedOf, pairMovedOf, movedCall, pairMovedCall}
+use Rattle.astrephon.specs.declared.Carried.{Carried}
+use Rattle.astrephon.specs.declared.Carried.the-variants.{Done}
 use Rattle.astrephon.specs.Sequences.{Takes, Forward}
+use Rattle.astrephon.proofs.Contracts.{Made, Gather, Scatter, MoveTray, MovePair}
+use Rattle.astrephon.proofs.Saying.{carried-same}
 
 module _ {a b : ℕ} (W : Forward a b) where
   -- ---- gather and scatter
@@ -42,6 +46,14 @@ module _ {a b : ℕ} (W : Forward a b) where
     unfolding scatteredOf
     scatter-does there packed held long count =
         writes held _ (fault-passed _ _ 0 (buffer-fine (length held) (b - a) (length packed) (packedLength r e a b) long count) refl ∙ window-on there _) refl
+
+    -- .. and so every answer that meets their contracts
+    module _ (there : e < r .layout .elements) (m : Made 3) (from held : List ℕ) (answer : Carried) (later : List ℕ) where
+      pub gather-done : length from ≡ b - a → length held ≡ packedLength r e a b → Gather m xs e a b from held answer later → answer ≡ Done
+      gather-done long packed p = carried-same answer Done (p .0 ∙ sym (gather-does there from held long packed .0))
+
+      pub scatter-done : length held ≡ b - a → length from ≡ packedLength r e a b → Scatter m xs e a b from held answer later → answer ≡ Done
+      scatter-done long count p = carried-same answer Done (p .0 ∙ sym (scatter-does there from held long count .0))
 
     -- an element that is not there: nothing is written
     pub scatter-absent : r .layout .elements ≤ e → (packed held : List ℕ) → scatteredCall xs e a b packed held .later ≡ held
@@ -73,6 +85,13 @@ module _ {a b : ℕ} (W : Forward a b) where
           → let outcome = pairMovedCall xs ys i j a b t held in (done [] ≡ outcome .says) × (pairMoved (layoutOf r1) (layoutOf r2) a (b - a) t i j held ≡ outcome .later)
       unfolding pairMovedOf
       pair-does i j first second = writes held _ (fault-passed _ _ 0 no-tray-fault refl ∙ elements-on r1 r2 i j _ (X .fine) (Y .fine) first second) refl
+
+      module _ (m : Made 4) (answer : Carried) (later : List ℕ) where
+        pub move-done : MoveTray m xs ys a b t held answer later → answer ≡ Done
+        move-done p = carried-same answer Done (p .0 ∙ sym (move-does .0))
+
+        pub pair-done : (i j : ℕ) → i < r1 .layout .elements → j < r2 .layout .elements → MovePair m xs ys i j a b t held answer later → answer ≡ Done
+        pair-done i j first second p = carried-same answer Done (p .0 ∙ sym (pair-does i j first second .0))
 
     -- an index that is none: nothing is written
     pub pair-absent : (i j : ℕ) → ELEMENT ≡ firstFault (pairTests (r1 .layout .elements) i (r2 .layout .elements) j) → pairMovedCall xs ys i j a b t held .later ≡ held
