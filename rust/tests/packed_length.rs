@@ -2,11 +2,11 @@
 
 use comparison::calls::answer;
 use comparison::element::{Element, END};
-use comparison::figures::{inner_pairs, layout_a, layout_b, layout_c, layout_f, whole_file};
+use comparison::figures::{inner_pairs, layout_a, layout_b, layout_c, layout_f, whole_file, REFUSED_WINDOWS_OF_F};
 use comparison::frame::{Answer, Frame, GATHER, PACKED_LENGTH};
 use comparison::generate::by_chance;
 use comparison::layout::{layout, run, Layout};
-use comparison::refusal::{BEFORE, BUFFER, COVER, ELEMENT, FAR, HOLE, SHORT, WINDOW};
+use comparison::refusal::{BUFFER, COVER, ELEMENT, HOLE, SHORT};
 use comparison::shapes::four_levels;
 use comparison::sheet::read;
 use comparison::write::sheet;
@@ -116,23 +116,10 @@ fn every_offset_of_a_short_window_is_counted() {
     assert!(counted >= 200, "{counted} windows are short");
 }
 
-/// F starts at 2.
 #[test]
 fn the_index_then_15_13_14() {
     let f = layout_f();
-    let numbers = [
-        ((14, 2), WINDOW),
-        ((1, 0), WINDOW),
-        ((END + 2, END + 1), WINDOW),
-        ((u64::MAX, 0), WINDOW),
-        ((1, 13), BEFORE),
-        ((1, 1), BEFORE),
-        ((0, END + 1), BEFORE),
-        ((2, END + 1), FAR),
-        ((END + 1, END + 1), FAR),
-        ((2, u64::MAX), FAR),
-    ];
-    for (window, number) in numbers {
+    for (window, number) in REFUSED_WINDOWS_OF_F {
         assert_eq!(length(&f, 2, window), Err(number), "{window:?}");
         for i in [3, 65_536, 1 << 32, u64::MAX] {
             assert_eq!(length(&f, i, window), Err(ELEMENT), "{window:?}");

@@ -2,11 +2,13 @@
 
 use comparison::calls::{answer, places};
 use comparison::element::{Element, END};
-use comparison::figures::{layout_a, layout_b, layout_c, layout_f, whole_file, LATE_TRAY_A, LATE_TRAY_B, TRAY_A, TRAY_B};
+use comparison::figures::{
+    layout_a, layout_b, layout_c, layout_f, whole_file, LATE_TRAY_A, LATE_TRAY_B, REFUSED_WINDOWS_OF_F, TRAY_A, TRAY_B,
+};
 use comparison::frame::{has_two_sheets, Answer, Frame, GATHER, MOVE, PAIR_MOVE, SCATTER};
 use comparison::layout::{layout, run, Layout};
 use comparison::random::Random;
-use comparison::refusal::{BEFORE, BUFFER, COVER, ELEMENT, FAR, HOLE, SHORT, WINDOW};
+use comparison::refusal::{BEFORE, BUFFER, COVER, ELEMENT, HOLE, SHORT, WINDOW};
 use comparison::shapes;
 use comparison::transfers::{self, marked, TRANSFERS};
 use comparison::write::sheet;
@@ -288,21 +290,8 @@ fn a_long_window_is_refused_and_not_walked() {
 /// F starts at 2, B at 0.
 #[test]
 fn the_index_then_15_13_14_then_the_buffers() {
-    let numbers = [
-        ((14, 2), WINDOW),
-        ((1, 0), WINDOW),
-        ((END + 2, END + 1), WINDOW),
-        ((u64::MAX, 0), WINDOW),
-        ((1, 13), BEFORE),
-        ((1, 1), BEFORE),
-        ((0, END + 1), BEFORE),
-        ((2, END + 1), FAR),
-        ((END + 1, END + 1), FAR),
-        ((2, u64::MAX), FAR),
-        ((2, 13), BUFFER),
-    ];
     for call in TRANSFERS {
-        for (window, number) in numbers {
+        for (window, number) in REFUSED_WINDOWS_OF_F.into_iter().chain([((2, 13), BUFFER)]) {
             // Of lengths that no window of 11 bytes wants.
             for lengths in [[1, 3], [12, 12]] {
                 assert_eq!(ask(call, [0, 0], window, lengths), refused(number, lengths), "call {call}, {window:?}");
