@@ -15,7 +15,7 @@ use Rattle.answers.specs.declared.calls.Reply.the-variants.{Told, Unknow
 use Rattle.answers.specs.Frames.{callOf, iOf, jOf, aOf, bOf, end4, Whole, sheet1, sheet2, intoOf}
 use Rattle.answers.specs.Numbers.{slotsIn, slotsOf, withSlots}
 use Rattle.answers.specs.Lines.{line}
-use Rattle.answers.specs.Replies.{sharing, sharedOutcome, Tells, askedOf, Replied, leaving, telling, replyTo, lineOf, lineLeft, reply}
+use Rattle.answers.specs.Replies.{sharing, sharedOutcome, Tells, askedOf, leaving, telling, replyTo, lineOf, lineLeft, reply}
 
 -- ---- one call: it was made on what the frame says
 pub asked : {A : Type 0} (says : A → Said) (answered : A) {answer : Answer} {said wanted : Said} → answer ≡ answerOf (says answered) → says answered ≡ said → said ≡ wanted

@@ -16,7 +16,7 @@ use Rattle.sheets.specs.Sheet.{readSheet}
 use Rattle.openings.proofs.Faults.{pair-first, pair-second}
 use Rattle.astrephon.specs.Moves.{layoutOf, pairMovedCall}
 use Rattle.astrephon.specs.Sequences.{Takes, Forward, Stop, AllTake}
-use Rattle.astrephon.proofs.Sequences.{Moved, PairMoved, Chain, Pairs}
+use Rattle.astrephon.proofs.Sequences.{Moved, Chain, Pairs}
 use Rattle.astrephon.proofs.Accepting.{move-does, pair-does, pair-absent}
 use Rattle.astrephon.proofs.Trays.{layout-length, past-none, shared-out}
 

@@ -1,16 +1,14 @@
 -- The call `shared_runs`, case by case: two elements are opened for the window, and the runs are listed or there is no room. Assumes nothing.
 use mathlib.Core.Path.{_≡_, refl, ap, ap₂, _∙_}
-use mathlib.Core.Bool.{Bool, true, false}
+use mathlib.Core.Bool.{Bool}
 use mathlib.Core.List.{List, [], _∷_, _++_}
 use Prim.Native.Nat.{ℕ, _*_, _≤_, _<_}
 use native.Mathlib.Omega.{arith}
-use lib.Dec.{leb}
 use lib.ListN.{length, drop}
 use borrow.Author.Tests.{le-leb, lt-leb}
 use Rattle.counting.specs.Runs.{Run}
 use Rattle.sheets.specs.declared.Reading.{Reading}
 use Rattle.sheets.specs.Sheet.{readSheet}
-use Rattle.maps.specs.declared.Selection.{Selection}
 use Rattle.maps.specs.Selected.{belongs}
 use Rattle.maps.specs.declared.Window.{Window}
 use Rattle.openings.specs.declared.Refusal.{Refusal}

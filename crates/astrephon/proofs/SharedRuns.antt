@@ -6,9 +6,9 @@ use Prim.Native.Nat.{ℕ, _+_, _-_, _*_, _≤_, _<_, max}
 use native.Mathlib.Omega.{arith}
 use lib.Dec.{leb}
 use lib.ListN.{length, drop}
-use borrow.Author.Tests.{leb-true, lt-leb}
+use borrow.Author.Tests.{leb-true}
 use Rattle.counting.specs.Count.{countIn}
-use Rattle.counting.specs.Runs.{Run, total, covers, Spaced, Maximal}
+use Rattle.counting.specs.Runs.{total, covers, Spaced, Maximal}
 use Rattle.counting.proofs.Cases.{byTest}
 use Rattle.counting.proofs.Runs.{runs-spaced, runs-cover, runs-maximal}
 use Rattle.counting.proofs.RunCounts.{runs-total}

@@ -1,5 +1,5 @@
 -- The calls between trays, case by case: both sheets were opened, then the indexes of a pair, the window and the trays are checked. Assumes nothing.
-use mathlib.Core.Path.{_≡_, refl, sym, ap, ap₂, _∙_}
+use mathlib.Core.Path.{_≡_, refl, ap, ap₂, _∙_}
 use mathlib.Core.List.{List, [], _++_}
 use Prim.Native.Nat.{ℕ, _-_, _≤_, max}
 use native.Mathlib.Omega.{arith}

@@ -11,7 +11,7 @@ use Rattle.families.specs.Decoded.{rowOf, Layout·ok}
 use Rattle.sheets.specs.declared.Reading.{Reading}
 use Rattle.sheets.specs.Sheet.{readSheet}
 use Rattle.sheets.proofs.Faults.{no-fault}
-use Rattle.sheets.proofs.Accepted.{Accepted, accepted-law}
+use Rattle.sheets.proofs.Accepted.{accepted-law}
 use Rattle.maps.specs.declared.Selection.{Selection}
 use Rattle.maps.specs.Selected.{familiesOf, belongs, Selection·ok, selectionOf}
 use Rattle.maps.proofs.Chosen.{families-tree, selection-ok, accepted-pattern, belongs-tree}

@@ -3,7 +3,6 @@ use mathlib.Core.Path.{_≡_, refl, sym, ap, ap₂, _∙_}
 use mathlib.Core.List.{List, []}
 use Prim.Native.Nat.{ℕ, _≤_, _<_, max}
 use native.Mathlib.Omega.{arith}
-use Rattle.families.specs.declared.Layout.{Layout}
 use Rattle.families.specs.Decoded.{rowOf, Layout·ok}
 use Rattle.sheets.specs.declared.Reading.{Reading}
 use Rattle.sheets.specs.Refusals.{firstFault}
@@ -16,7 +15,7 @@ use Rattle.openings.specs.declared.Sheets.{Sheets}
 use Rattle.openings.specs.Said.{Said, done}
 use Rattle.openings.specs.Refusals.{sheetRefusal, callRefusal, unlessSheet, unlessSheets, unlessFault}
 use Rattle.openings.specs.Offsets.{LIMIT, pairTests, windowTests, unlessElements}
-use Rattle.openings.specs.Openings.{Verdict, Chosen, OpensPair, OpensSheets}
+use Rattle.openings.specs.Openings.{Verdict, OpensPair, OpensSheets}
 use Rattle.openings.proofs.Orders.{sheet-passed, fault-passed, sheet-through, fault-through}
 use Rattle.openings.proofs.Verdicts.{sheet-verdict, fault-verdict, no-verdict, verdict-none, still, after}
 use Rattle.openings.proofs.Faults.{range-known, pair-fine, pair-known}
