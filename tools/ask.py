@@ -15,7 +15,8 @@
     listing SHEET TEXT                             what the program `listing` prints of it, at the front of the text
 
 Sheets and buffers are files. The last buffer is lent: it must be there, with the length that the call asks for. An accepted call writes
-it, a refused one leaves it. What the call answers is printed; a refusal is printed as an error, `refused NUMBER at PLACE sheet SHEET`.
+it, a refused one leaves it. What the call answers is printed; a refusal is printed as an error, `refused NUMBER at PLACE sheet SHEET`. It ends
+with status 0 for an accepted call, 1 for a refused one, and 2 where no call was made: a wrong word, no such file, a program that is not built.
 
 A script that makes many calls has `frame` and `ask`: the program is started once for all the frames that it is asked.
 """
@@ -26,7 +27,7 @@ import subprocess
 import sys
 
 RUN = str(pathlib.Path(__file__).resolve().parent / "run")
-LONGEST = 65_532
+MOST = 65_532
 
 # Each call: its number, what it takes in the order of the words above, and what its values are.
 CALLS = {
@@ -54,8 +55,8 @@ def frame(call, i=0, j=0, a=0, b=0, sheet1=b"", sheet2=b"", source=b"", into=b""
     body = struct.pack("<B4Q", CALLS[call][0], i, j, a, b)
     for blob in (sheet1, sheet2, source, into):
         body += struct.pack("<I", len(blob)) + blob
-    if len(body) > LONGEST:
-        raise ValueError(f"the call has {len(body)} bytes and may have {LONGEST}: take a smaller window")
+    if len(body) > MOST:
+        raise ValueError(f"the call has {len(body)} bytes with its sheets and buffers, and may have {MOST}")
     return struct.pack("<I", len(body)) + body
 
 
@@ -63,6 +64,8 @@ def ask(frames):
     """The program's answers to a list of frames, in their order."""
     printed = subprocess.run([RUN, "answers"], input=b"".join(frames), stdout=subprocess.PIPE, check=True).stdout
     lines = printed.decode().splitlines()
+    if "bad frame" in lines:
+        raise ValueError(f"the program takes frame {lines.index('bad frame')} for none of its calls: is it built from these files?")
     if len(lines) != len(frames):
         raise ValueError(f"the program printed {len(lines)} lines for {len(frames)} frames")
     return [answer(line) for line in lines]
@@ -74,13 +77,26 @@ def answer(line):
     return Answer(*map(int, numbers), b"" if into == "-" else bytes.fromhex(into))
 
 
-def main(call="", *words):
-    _, takes, gives = CALLS.get(call, (0, "", []))
-    if not takes or len(words) != len(takes.split()):
-        sys.exit(__doc__)
-    given = dict(zip(takes.split(), words))
+def number(word):
+    """A word as a number of 64 bits. Python would take `1_000`, ` 7` and `-1` too."""
+    if not (word.isascii() and word.isdigit() and int(word) < 2**64):
+        raise ValueError(f"'{word}' is no whole number from 0 to 2^64 - 1")
+    return int(word)
+
+
+def main(call="--help", *words):
+    if call in ("-h", "--help"):
+        print(__doc__)
+        return
+    if call not in CALLS:
+        raise ValueError(f"there is no call '{call}'; tools/ask.py --help lists them")
+    _, takes, gives = CALLS[call]
+    names = takes.split()
+    if len(words) != len(names):
+        raise ValueError(f"{call} takes {len(names)} words and was given {len(words)}; tools/ask.py --help says which")
+    given = dict(zip(names, words))
     for name, word in given.items():
-        given[name] = int(word) if name in ("i", "j", "a", "b") else pathlib.Path(word).read_bytes()
+        given[name] = number(word) if name in ("i", "j", "a", "b") else pathlib.Path(word).read_bytes()
     [said] = ask([frame(call, **given)])
     if said.number > 0:
         sys.exit(f"refused {said.number} at {said.place} sheet {said.sheet}{FLAGS[said.flag]}")
@@ -94,4 +110,5 @@ if __name__ == "__main__":
     try:
         main(*sys.argv[1:])
     except (OSError, ValueError, struct.error, subprocess.CalledProcessError) as error:
-        sys.exit(f"ask.py: {error}")
+        print(f"ask.py: {error}", file=sys.stderr)
+        sys.exit(2)
