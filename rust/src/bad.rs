@@ -53,14 +53,14 @@ fn parts() -> Vec<(&'static str, Vec<u8>)> {
     ]
 }
 
-/// Calls that no table has.
+/// Calls beside those that there are.
 fn calls() -> Vec<(&'static str, Vec<u8>)> {
     let called = |call: u8| {
         let mut frame = good();
         frame[CALL] = call;
         frame
     };
-    vec![("unknown-call-0", called(0)), ("unknown-call-200", called(200))]
+    vec![("unknown-call-0", called(0)), ("unknown-call-12", called(12)), ("unknown-call-16", called(16)), ("unknown-call-18", called(18))]
 }
 
 /// Bytes by chance, and a whole frame's number of them behind a call that is known.

@@ -4,7 +4,8 @@
 use crate::buffers::{Transfer, Window};
 use crate::element::{Element, END};
 use crate::frame::{
-    Answer, Frame, BAD, CHECK, EXACT, GATHER, INTERVAL_SPAN, INVERSE, LISTING, MOVE, NEXT, PACKED_LENGTH, PAIR_MOVE, SCATTER, SHARED_RUNS,
+    Answer, Frame, BAD, CHECK, EXACT, GATHER, INTERVAL_SPAN, INVERSE, KNOWN, LISTING, MOVE, NEXT, PACKED_LENGTH, PAIR_MOVE, SCATTER,
+    SHARED_RUNS,
 };
 use crate::layout::Layout;
 use crate::listing;
@@ -12,10 +13,6 @@ use crate::pattern::Pattern;
 use crate::refusal::{Refusal, BEFORE, BUFFER, ELEMENT, FAR, FOREIGN, ROOM, WINDOW};
 use crate::runs::{self, Run};
 use crate::sheet;
-
-/// The calls that this program answers.
-pub const KNOWN: [u8; 12] =
-    [CHECK, EXACT, NEXT, INVERSE, INTERVAL_SPAN, GATHER, SCATTER, MOVE, PAIR_MOVE, SHARED_RUNS, LISTING, PACKED_LENGTH];
 
 /// The bytes of a slot, and the slots of a run.
 const SLOT: usize = 8;

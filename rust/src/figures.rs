@@ -3,7 +3,7 @@
 use crate::element::END;
 use crate::frame::{Answer, Frame, EXACT, INVERSE, NEXT};
 use crate::layout::{family, layout, run, Layout};
-use crate::refusal::{BEFORE, COVER, FAR, FOREIGN, HOLE, NO_FLAG, ORDER, OVERLAP, ROOM, SEGMENT, SHORT, WINDOW};
+use crate::refusal::{BEFORE, COVER, FAR, FOREIGN, HOLE, NO_FLAG, ORDER, OVERLAP, ROOM, SEGMENT, SHORT};
 use crate::write::sheet;
 
 pub struct Figure {
@@ -15,20 +15,6 @@ pub struct Figure {
 pub fn layout_f() -> Layout {
     Layout { displacement: 2, ..layout_a() }
 }
-
-/// Windows of F, which starts at 2, that every call refuses: exchanged ends before a start that is too early, and that before an end that is too far.
-pub const REFUSED_WINDOWS_OF_F: [((u64, u64), u8); 10] = [
-    ((14, 2), WINDOW),
-    ((1, 0), WINDOW),
-    ((END + 2, END + 1), WINDOW),
-    ((u64::MAX, 0), WINDOW),
-    ((1, 13), BEFORE),
-    ((1, 1), BEFORE),
-    ((0, END + 1), BEFORE),
-    ((2, END + 1), FAR),
-    ((END + 1, END + 1), FAR),
-    ((2, u64::MAX), FAR),
-];
 
 pub fn layout_a() -> Layout {
     layout(vec![vec![run(0, 1)], vec![run(2, 3)], vec![run(4, 5)]])

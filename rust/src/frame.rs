@@ -16,9 +16,52 @@ pub const SHARED_RUNS: u8 = 10;
 pub const LISTING: u8 = 11;
 pub const PACKED_LENGTH: u8 = 17;
 
+/// What a frame has besides its call and its first sheet, which every call uses.
+#[derive(Clone, Copy, PartialEq, Eq)]
+pub enum Part {
+    I,
+    J,
+    A,
+    B,
+    Sheet2,
+    From,
+    Into,
+}
+
+/// The calls, and what each uses.
+const USES: [(u8, &[Part]); 12] = [
+    (CHECK, &[]),
+    (EXACT, &[Part::I, Part::A]),
+    (NEXT, &[Part::I, Part::A]),
+    (INVERSE, &[Part::I, Part::A]),
+    (INTERVAL_SPAN, &[Part::I, Part::A, Part::B]),
+    (GATHER, &[Part::I, Part::A, Part::B, Part::From, Part::Into]),
+    (SCATTER, &[Part::I, Part::A, Part::B, Part::From, Part::Into]),
+    (MOVE, &[Part::A, Part::B, Part::Sheet2, Part::From, Part::Into]),
+    (PAIR_MOVE, &[Part::I, Part::J, Part::A, Part::B, Part::Sheet2, Part::From, Part::Into]),
+    (SHARED_RUNS, &[Part::I, Part::J, Part::A, Part::B, Part::Sheet2, Part::Into]),
+    (LISTING, &[Part::Into]),
+    (PACKED_LENGTH, &[Part::I, Part::A, Part::B]),
+];
+
+/// The calls of that table, `CHECK` first.
+pub const KNOWN: [u8; USES.len()] = {
+    let mut known = [0; USES.len()];
+    let mut place = 0;
+    while place < known.len() {
+        known[place] = USES[place].0;
+        place += 1;
+    }
+    known
+};
+
+pub fn uses(call: u8, part: Part) -> bool {
+    USES.iter().any(|(known, parts)| *known == call && parts.contains(&part))
+}
+
 /// Whether a call has a second sheet.
 pub fn has_two_sheets(call: u8) -> bool {
-    [MOVE, PAIR_MOVE, SHARED_RUNS].contains(&call)
+    uses(call, Part::Sheet2)
 }
 
 /// The most bytes that may follow a frame's first number.

@@ -1,37 +1,20 @@
 //! The frames: of each call the figures of 01 and the edges, and as many by chance as are asked for.
 
 use crate::figures::figures;
-use crate::frame::{self, Frame, CHECK};
+use crate::frame::{Frame, CHECK, KNOWN};
 use crate::random::Random;
 use crate::{bad, bounds, chance, edges, lengths, texts, transfers, unused, windows};
-
-/// The calls that frames are made of, `CHECK` first: those that the program `answers` has. `calls::KNOWN` may have more, which are added
-/// here once `answers` has them, and the kept frames are made anew.
-pub const CALLS: &[u8] = &[
-    CHECK,
-    frame::EXACT,
-    frame::NEXT,
-    frame::INVERSE,
-    frame::INTERVAL_SPAN,
-    frame::GATHER,
-    frame::SCATTER,
-    frame::MOVE,
-    frame::PAIR_MOVE,
-    frame::SHARED_RUNS,
-    frame::LISTING,
-    frame::PACKED_LENGTH,
-];
 
 /// The seed and count of the frames that are kept beside the program `answers`. The seed also picks their bad end: one that is too long.
 pub const KEPT: (u64, usize) = (2014, 2_142);
 
 /// The frames of a seed, call by call. Of each call the first ones do not depend on the seed.
-pub fn frames(calls: &[u8], seed: u64, count: usize) -> Vec<Frame> {
+pub fn frames(seed: u64, count: usize) -> Vec<Frame> {
     let fixed = fixed();
     let mut out = Vec::new();
-    for (place, call) in calls.iter().enumerate() {
-        out.extend(fixed.iter().filter(|frame| frame.call == *call).cloned());
-        out.extend(by_chance(*call, seed, share(place, calls.len(), count)));
+    for call in KNOWN {
+        out.extend(fixed.iter().filter(|frame| frame.call == call).cloned());
+        out.extend(by_chance(call, seed, share(call, count)));
     }
     out
 }
@@ -43,14 +26,13 @@ fn fixed() -> Vec<Frame> {
     figures.chain(edges.into_iter().flat_map(|frames| frames())).collect()
 }
 
-/// How many of `count` frames the call at a place of the list has: the others the same number each, and the first one three times as many
-/// and what is left over, since every call reads sheets and they can go wrong in the most ways. So a call that is added, and a share for it,
-/// leave all other frames as they were.
-fn share(place: usize, calls: usize, count: usize) -> usize {
-    let others = calls - 1;
+/// How many of `count` frames a call has: the others the same number each, and `CHECK` three times as many and what is left over, since every
+/// call reads sheets and they can go wrong in the most ways. So a call that is added, and a share for it, leave all other frames as they were.
+fn share(call: u8, count: usize) -> usize {
+    let others = KNOWN.len() - 1;
     let each = count / (others + 3);
-    match place {
-        0 => count - others * each,
+    match call {
+        CHECK => count - others * each,
         _ => each,
     }
 }

@@ -16,7 +16,7 @@ use crate::write::sheet;
 pub fn frames() -> Vec<Frame> {
     let layouts = edges::layouts();
     let of_each = |windows: fn(&Layout) -> Vec<Window>| layouts.iter().flat_map(|layout| in_turn(layout, &windows(layout))).collect();
-    let refused = in_turn(&from(20, layout_b()), &REFUSED);
+    let refused = in_turn(&from(20, layout_b()), &REFUSED.map(|(window, _)| window));
     [of_each(short), of_each(long), of_each(faulty), refused, indexes(), refused_sheets(), of_the_fullest()].concat()
 }
 

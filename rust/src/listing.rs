@@ -2,7 +2,7 @@
 
 use crate::layout::{count, Layout};
 use crate::pattern::Pattern;
-use crate::refusal::{Refusal, HOLE, OVERLAP};
+use crate::refusal::{Refusal, FLAGS};
 use crate::sheet::read;
 
 pub fn text(sheet: &[u8]) -> String {
@@ -29,10 +29,5 @@ fn element(layout: &Layout, pattern: &Pattern, index: usize) -> String {
 }
 
 fn refused(Refusal { number, place, flag }: Refusal) -> String {
-    let flag = match flag {
-        HOLE => " hole",
-        OVERLAP => " overlap",
-        _ => "",
-    };
-    format!("refused {number} at {place}{flag}\n")
+    format!("refused {number} at {place}{}\n", FLAGS[usize::from(flag)])
 }

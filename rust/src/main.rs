@@ -43,7 +43,7 @@ fn parsed(seed: &str, count: &str) -> Done<(u64, usize)> {
 }
 
 fn write_frames((seed, count): (u64, usize), frames_file: &str, lines_file: &str) -> Done<()> {
-    let frames = generate::frames(generate::CALLS, seed, count);
+    let frames = generate::frames(seed, count);
     let mut bytes: Vec<u8> = frames.iter().flat_map(Frame::bytes).collect();
     bytes.extend(generate::bad_end(seed));
     fs::write(lines_file, calls::printed(&bytes))?;

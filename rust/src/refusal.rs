@@ -23,6 +23,9 @@ pub const NO_FLAG: u8 = 0;
 pub const HOLE: u8 = 1;
 pub const OVERLAP: u8 = 2;
 
+/// The word of each flag, as a listing has it.
+pub const FLAGS: [&str; 3] = ["", " hole", " overlap"];
+
 /// What stands in 01's table under each number; number 0 is an accepted call.
 pub const NAMES: [&str; 19] = [
     "accepted",

@@ -6,7 +6,7 @@ use crate::frame::{
     SHARED_RUNS,
 };
 use crate::listing;
-use crate::refusal::{HOLE, NAMES, OVERLAP};
+use crate::refusal::{FLAGS, NAMES};
 use crate::sheet::{ELEMENT, FAMILY, HEADER};
 
 /// Records of a sheet that are spelled out; the others are only counted in bytes.
@@ -123,12 +123,8 @@ fn line(line: &str) -> String {
     };
     let named = number.parse::<usize>().ok().and_then(|number| NAMES.get(number));
     let name = named.copied().unwrap_or("a number of no refusal");
-    let flag = match flag.parse() {
-        Ok(0) => "",
-        Ok(HOLE) => ", hole",
-        Ok(OVERLAP) => ", overlap",
-        _ => ", a flag that does not exist",
-    };
+    let flagged = flag.parse::<usize>().ok().and_then(|flag| FLAGS.get(flag));
+    let flag = flagged.copied().unwrap_or(" with a flag that does not exist");
     let buffer = if into == "-" { String::from("no buffer") } else { format!("a buffer of {} bytes", into.len() / 2) };
     format!("'{}': {name}{flag}; sheet {sheet}, place {place}, values {value}, {value2} and {value3}, {buffer}", cut(line))
 }

@@ -110,7 +110,7 @@ fn refused() -> Vec<Frame> {
     let only = alone(&from(20, layout_b()), 1);
     let lengths = |(a, b): Window| [b.saturating_sub(a).min(24); 2];
     let mut out = Vec::new();
-    for window in REFUSED {
+    for (window, _) in REFUSED {
         out.extend(TRANSFERS.map(|call| of_pair(call, &turned, window, [5, 3])));
         out.extend([MOVE, PAIR_MOVE].map(|call| of_pair(call, &late, window, lengths(window))));
         out.extend([GATHER, SCATTER].map(|call| of_pair(call, &only, window, lengths(window))));

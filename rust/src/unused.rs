@@ -1,9 +1,7 @@
 //! Frames that have something in what their call does not use, where all others have 0 or nothing. The answer is the same.
 
 use crate::figures::{hole, layout_b, layout_f, slots};
-use crate::frame::{has_two_sheets, Frame};
-use crate::frame::{CHECK, EXACT, INTERVAL_SPAN, INVERSE, LISTING, MOVE, NEXT, PACKED_LENGTH, PAIR_MOVE, SHARED_RUNS};
-use crate::transfers::TRANSFERS;
+use crate::frame::{uses, Frame, Part, EXACT, INVERSE, NEXT};
 use crate::write::sheet;
 
 pub fn frames() -> Vec<Frame> {
@@ -15,29 +13,18 @@ pub fn frames() -> Vec<Frame> {
 
 /// The frame with what its call does not use taken from another; from `Frame::default()` that is 0 or empty.
 pub fn with_unused(frame: &Frame, other: &Frame) -> Frame {
-    let (call, other, mut out) = (frame.call, other.clone(), frame.clone());
-    if [CHECK, MOVE, LISTING].contains(&call) {
-        out.i = other.i;
+    let of = |part| if uses(frame.call, part) { frame } else { other };
+    Frame {
+        call: frame.call,
+        i: of(Part::I).i,
+        j: of(Part::J).j,
+        a: of(Part::A).a,
+        b: of(Part::B).b,
+        sheet1: frame.sheet1.clone(),
+        sheet2: of(Part::Sheet2).sheet2.clone(),
+        from: of(Part::From).from.clone(),
+        into: of(Part::Into).into.clone(),
     }
-    if ![PAIR_MOVE, SHARED_RUNS].contains(&call) {
-        out.j = other.j;
-    }
-    if [CHECK, LISTING].contains(&call) {
-        out.a = other.a;
-    }
-    if [CHECK, EXACT, NEXT, INVERSE, LISTING].contains(&call) {
-        out.b = other.b;
-    }
-    if !has_two_sheets(call) {
-        out.sheet2 = other.sheet2;
-    }
-    if !TRANSFERS.contains(&call) {
-        out.from = other.from;
-    }
-    if [CHECK, EXACT, NEXT, INVERSE, INTERVAL_SPAN, PACKED_LENGTH].contains(&call) {
-        out.into = other.into;
-    }
-    out
 }
 
 /// What is not used: indexes, offsets and a sheet that would be refused, and those that would not.

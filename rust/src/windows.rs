@@ -6,6 +6,7 @@ use crate::element::{Element, END};
 use crate::figures::{inner_pairs, inner_singles, layout_a, layout_b, layout_c, layout_f, slots, whole_file};
 use crate::frame::{Frame, LONGEST_BLOB};
 use crate::layout::{family, layout, run, Layout};
+use crate::refusal::{BEFORE, FAR, WINDOW};
 use crate::runs;
 use crate::shapes::{four_levels, fullest, sixteen};
 use crate::write::sheet;
@@ -120,35 +121,35 @@ pub fn late_pairs() -> [Pair; 2] {
     [late(10, 20), late(20, 10)]
 }
 
-/// Windows that are refused, with one fault or two, where the larger displacement is 20 and the other, if any, is 10.
-pub const REFUSED: [(u64, u64); 18] = [
+/// Windows that are refused, with one fault or two, and the number, where the larger displacement is 20 and the other, if any, is 10.
+pub const REFUSED: [((u64, u64), u8); 18] = [
     // BEFORE of one displacement, of both, where nothing is in the window, and where its end is FAR.
-    (19, 30),
-    (10, 30),
-    (9, 30),
-    (19, 19),
-    (0, 0),
-    (19, END + 1),
-    (0, u64::MAX),
+    ((19, 30), BEFORE),
+    ((10, 30), BEFORE),
+    ((9, 30), BEFORE),
+    ((19, 19), BEFORE),
+    ((0, 0), BEFORE),
+    ((19, END + 1), BEFORE),
+    ((0, u64::MAX), BEFORE),
     // FAR by one, with nothing in the window, and by far.
-    (20, END + 1),
-    (END, END + 1),
-    (END + 1, END + 1),
-    (20, u64::MAX),
-    (u64::MAX, u64::MAX),
+    ((20, END + 1), FAR),
+    ((END, END + 1), FAR),
+    ((END + 1, END + 1), FAR),
+    ((20, u64::MAX), FAR),
+    ((u64::MAX, u64::MAX), FAR),
     // WINDOW, whatever its ends are.
-    (21, 20),
-    (20, 19),
-    (19, 18),
-    (END + 1, END),
-    (END + 2, END + 1),
-    (u64::MAX, 0),
+    ((21, 20), WINDOW),
+    ((20, 19), WINDOW),
+    ((19, 18), WINDOW),
+    ((END + 1, END), WINDOW),
+    ((END + 2, END + 1), WINDOW),
+    ((u64::MAX, 0), WINDOW),
 ];
 
 /// A list that is too short changes nothing.
 fn refused() -> Vec<Frame> {
     let [late, turned] = late_pairs();
-    REFUSED.iter().flat_map(|window| [late.frame(*window, slots(4)), turned.frame(*window, Vec::new())]).collect()
+    REFUSED.iter().flat_map(|(window, _)| [late.frame(*window, slots(4)), turned.frame(*window, Vec::new())]).collect()
 }
 
 /// Lists with a run's room too little, a slot too little, a byte too little, just enough, and more.

@@ -3,7 +3,7 @@
 
 use comparison::element::Element;
 use comparison::layout::{family, Layout, Siblings};
-use comparison::refusal::{HOLE, OVERLAP};
+use comparison::refusal::FLAGS;
 use comparison::sheet::read;
 use comparison::write;
 use std::fs;
@@ -103,11 +103,7 @@ fn each_slip_is_refused_as_its_text_says() {
     assert_eq!(slips.len(), 7);
     for text in slips.iter().map(|path| text(path)) {
         let refusal = read(&write::sheet(&layout(&text))).expect_err("a slip is refused");
-        let flag = match refusal.flag {
-            HOLE => " hole",
-            OVERLAP => " overlap",
-            _ => "",
-        };
+        let flag = FLAGS[usize::from(refusal.flag)];
         let said = format!("# refused {} at {}{flag}: ", refusal.number, refusal.place);
         assert!(text.starts_with(&said), "{said}is what this should say: {text}");
     }

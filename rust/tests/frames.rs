@@ -1,13 +1,13 @@
 //! What the frames reach, that a frame can be read back, and that its bad ends are bad.
 
 use comparison::bad;
-use comparison::calls::{answer, printed, KNOWN};
+use comparison::calls::{answer, printed};
 use comparison::element::Element;
 use comparison::frame::{has_two_sheets, Answer, Frame};
 use comparison::frame::{
-    CHECK, EXACT, GATHER, INTERVAL_SPAN, INVERSE, LISTING, MOVE, NEXT, PACKED_LENGTH, PAIR_MOVE, SCATTER, SHARED_RUNS,
+    CHECK, EXACT, GATHER, INTERVAL_SPAN, INVERSE, KNOWN, LISTING, MOVE, NEXT, PACKED_LENGTH, PAIR_MOVE, SCATTER, SHARED_RUNS,
 };
-use comparison::generate::{bad_end, by_chance, frames, CALLS, KEPT};
+use comparison::generate::{bad_end, by_chance, frames, KEPT};
 use comparison::refusal::{BEFORE, BUFFER, COVER, ELEMENT, FAR, FOREIGN, HOLE, NO_FLAG, OVERLAP, ROOM, WINDOW};
 use comparison::sheet::read;
 use comparison::transfers::TRANSFERS;
@@ -17,10 +17,10 @@ use std::sync::OnceLock;
 /// How often each refusal is to be met, by call 1 in a sheet and by the other calls in what else they check.
 const OFTEN: usize = 15;
 
-/// The kept frames, with every call that is known, whether it is asked yet or not; and the answer to each.
+/// The kept frames, and the answer to each.
 fn kept() -> &'static [(Frame, Answer)] {
     static KEPT_FRAMES: OnceLock<Vec<(Frame, Answer)>> = OnceLock::new();
-    KEPT_FRAMES.get_or_init(|| frames(&KNOWN, KEPT.0, KEPT.1).into_iter().map(answered).collect())
+    KEPT_FRAMES.get_or_init(|| frames(KEPT.0, KEPT.1).into_iter().map(answered).collect())
 }
 
 fn answered(frame: Frame) -> (Frame, Answer) {
@@ -33,21 +33,10 @@ fn answers(call: u8) -> Vec<&'static Answer> {
 }
 
 #[test]
-fn the_calls_that_are_asked_are_known_and_check_is_the_first() {
-    assert!(CALLS.iter().all(|call| KNOWN.contains(call)));
-    assert_eq!(CALLS[0], CHECK);
-    let asked = frames(CALLS, KEPT.0, KEPT.1);
-    assert!(asked.iter().all(|frame| CALLS.contains(&frame.call)));
-    assert!(CALLS.iter().all(|call| asked.iter().any(|frame| frame.call == *call)));
-}
-
-#[test]
 fn as_many_frames_by_chance_as_asked_for() {
-    for calls in [&KNOWN[..], CALLS, &KNOWN[..1]] {
-        let fixed = frames(calls, 1, 0).len();
-        for count in [1, 2, 3, 10, 77] {
-            assert_eq!(frames(calls, 1, count).len(), fixed + count);
-        }
+    let fixed = frames(1, 0).len();
+    for count in [1, 2, 3, 10, 77] {
+        assert_eq!(frames(1, count).len(), fixed + count);
     }
 }
 
@@ -247,8 +236,7 @@ fn the_kept_frames_are_many_of_every_call() {
 
 #[test]
 fn the_kept_frames_are_few_enough_to_keep() {
-    let asked = kept().iter().filter(|(frame, _)| CALLS.contains(&frame.call));
-    let bytes = asked.map(|(frame, _)| frame.bytes().len()).sum::<usize>() + bad_end(KEPT.0).len();
+    let bytes = kept().iter().map(|(frame, _)| frame.bytes().len()).sum::<usize>() + bad_end(KEPT.0).len();
     assert!(bytes < 2_500_000, "{bytes} bytes");
 }
 

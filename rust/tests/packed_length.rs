@@ -2,13 +2,14 @@
 
 use comparison::calls::answer;
 use comparison::element::{Element, END};
-use comparison::figures::{inner_pairs, layout_a, layout_b, layout_c, layout_f, whole_file, REFUSED_WINDOWS_OF_F};
+use comparison::figures::{inner_pairs, layout_a, layout_b, layout_c, layout_f, whole_file};
 use comparison::frame::{Answer, Frame, GATHER, PACKED_LENGTH};
 use comparison::generate::by_chance;
 use comparison::layout::{layout, run, Layout};
 use comparison::refusal::{BUFFER, COVER, ELEMENT, HOLE, SHORT};
 use comparison::shapes::four_levels;
 use comparison::sheet::read;
+use comparison::windows::{from, REFUSED};
 use comparison::write::sheet;
 
 type Window = (u64, u64);
@@ -118,11 +119,11 @@ fn every_offset_of_a_short_window_is_counted() {
 
 #[test]
 fn the_index_then_15_13_14() {
-    let f = layout_f();
-    for (window, number) in REFUSED_WINDOWS_OF_F {
-        assert_eq!(length(&f, 2, window), Err(number), "{window:?}");
+    let (f, late) = (layout_f(), from(20, layout_a()));
+    for (window, number) in REFUSED {
+        assert_eq!(length(&late, 2, window), Err(number), "{window:?}");
         for i in [3, 65_536, 1 << 32, u64::MAX] {
-            assert_eq!(length(&f, i, window), Err(ELEMENT), "{window:?}");
+            assert_eq!(length(&late, i, window), Err(ELEMENT), "{window:?}");
         }
     }
     for i in [3, 65_536, 65_537, 1 << 32, u64::MAX] {

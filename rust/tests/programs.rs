@@ -61,7 +61,7 @@ fn the_lines_of_answers() {
 #[test]
 fn a_bad_frame_is_tried_alone_and_behind_a_good_one() {
     let ends = bad::ends();
-    assert_eq!(ends.len(), 16);
+    assert_eq!(ends.len(), 18);
     for (name, _) in ends {
         assert_eq!(output("answers", name), "bad frame\n", "{name}");
         assert_eq!(output("answers", &format!("good-then-{name}")), "0 0 0 0 6 3 2 -\nbad frame\n", "{name}");
@@ -77,5 +77,5 @@ fn every_case_has_a_name_of_its_own() {
     assert!(cases.iter().all(|case| plain(&case.name)));
     assert_eq!(cases.iter().map(|case| (case.program, &case.name)).collect::<BTreeSet<_>>().len(), cases.len());
     let of = |program: &str| cases.iter().filter(|case| case.program == program).count();
-    assert_eq!((of("listing"), of("answers")), (18, 50));
+    assert_eq!((of("listing"), of("answers")), (18, 54));
 }

@@ -1,8 +1,8 @@
 //! What the kept frames reach of the layouts, windows and offsets that 01 bounds.
 
-use comparison::calls::{answer, KNOWN};
+use comparison::calls::answer;
 use comparison::element::{Element, END};
-use comparison::frame::{has_two_sheets, Frame, INVERSE, PACKED_LENGTH, SHARED_RUNS};
+use comparison::frame::{has_two_sheets, Frame, INVERSE, KNOWN, PACKED_LENGTH, SHARED_RUNS};
 use comparison::generate::{frames, KEPT};
 use comparison::layout::{count, Family, Layout};
 use comparison::listing::text;
@@ -26,7 +26,7 @@ fn kept() -> &'static [Kept] {
         let layouts: Vec<Layout> = sheets.into_iter().flatten().map(|sheet| read(sheet).ok()).collect::<Option<_>>()?;
         Some(Kept { period: Element::of(&layouts[0], 0).period(), number: answer(&frame).number, layouts, frame })
     };
-    KEPT_FRAMES.get_or_init(|| frames(&KNOWN, KEPT.0, KEPT.1).into_iter().filter_map(of).collect())
+    KEPT_FRAMES.get_or_init(|| frames(KEPT.0, KEPT.1).into_iter().filter_map(of).collect())
 }
 
 /// How many frames of a call have this number and meet a condition.

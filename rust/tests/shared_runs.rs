@@ -5,7 +5,8 @@ use comparison::element::END;
 use comparison::figures::{inner_pairs, inner_singles, layout_a, layout_b, layout_f, slots, whole_file};
 use comparison::frame::{Answer, Frame};
 use comparison::layout::{layout, run, Layout};
-use comparison::refusal::{BEFORE, COVER, ELEMENT, FAR, HOLE, ROOM, SHORT, WINDOW};
+use comparison::refusal::{COVER, ELEMENT, HOLE, ROOM, SHORT, WINDOW};
+use comparison::windows::REFUSED;
 use comparison::write::sheet;
 
 type Window = (u64, u64);
@@ -105,21 +106,7 @@ fn no_runs_need_no_room() {
 #[test]
 fn windows_are_checked_15_then_13_then_14() {
     let (late, early) = (Layout { displacement: 20, ..layout_a() }, Layout { displacement: 10, ..layout_b() });
-    let numbers = [
-        ((21, 20), WINDOW),
-        ((9, 8), WINDOW),
-        ((END + 2, END + 1), WINDOW),
-        ((u64::MAX, 0), WINDOW),
-        // Below the larger displacement, also where the window is empty or its end is FAR.
-        ((19, 30), BEFORE),
-        ((10, 30), BEFORE),
-        ((19, 19), BEFORE),
-        ((0, END + 1), BEFORE),
-        ((20, END + 1), FAR),
-        ((END + 1, END + 1), FAR),
-        ((20, u64::MAX), FAR),
-    ];
-    for (window, number) in numbers {
+    for (window, number) in REFUSED {
         for layouts in [[&late, &early], [&early, &late]] {
             assert_eq!(ask(layouts, [0, 0], window, slots(5)), refused(number, 0, slots(5)), "{window:?}");
         }

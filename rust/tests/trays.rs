@@ -2,15 +2,14 @@
 
 use comparison::calls::{answer, places};
 use comparison::element::{Element, END};
-use comparison::figures::{
-    layout_a, layout_b, layout_c, layout_f, whole_file, LATE_TRAY_A, LATE_TRAY_B, REFUSED_WINDOWS_OF_F, TRAY_A, TRAY_B,
-};
+use comparison::figures::{layout_a, layout_b, layout_c, layout_f, whole_file, LATE_TRAY_A, LATE_TRAY_B, TRAY_A, TRAY_B};
 use comparison::frame::{has_two_sheets, Answer, Frame, GATHER, MOVE, PAIR_MOVE, SCATTER};
 use comparison::layout::{layout, run, Layout};
 use comparison::random::Random;
 use comparison::refusal::{BEFORE, BUFFER, COVER, ELEMENT, HOLE, SHORT, WINDOW};
 use comparison::shapes;
 use comparison::transfers::{self, marked, TRANSFERS};
+use comparison::windows::{from, REFUSED};
 use comparison::write::sheet;
 
 type Window = (u64, u64);
@@ -287,27 +286,33 @@ fn a_long_window_is_refused_and_not_walked() {
     }
 }
 
-/// F starts at 2, B at 0.
+/// The first sheet starts at 20, the second at 10.
 #[test]
 fn the_index_then_15_13_14_then_the_buffers() {
+    let sheets = [from(20, layout_a()), from(10, layout_b())].map(|layout| sheet(&layout));
     for call in TRANSFERS {
-        for (window, number) in REFUSED_WINDOWS_OF_F.into_iter().chain([((2, 13), BUFFER)]) {
+        let ask = |i, window, lengths| answer(&transfers::frame(call, sheets.clone(), [i, 0], window, marked(lengths)));
+        for (window, number) in REFUSED.into_iter().chain([((20, 31), BUFFER)]) {
             // Of lengths that no window of 11 bytes wants.
             for lengths in [[1, 3], [12, 12]] {
-                assert_eq!(ask(call, [0, 0], window, lengths), refused(number, lengths), "call {call}, {window:?}");
+                assert_eq!(ask(0, window, lengths), refused(number, lengths), "call {call}, {window:?}");
                 // A move has no element index.
                 let number = if call == MOVE { number } else { ELEMENT };
                 for i in [3, 65_536, 1 << 32, u64::MAX] {
-                    assert_eq!(ask(call, [i, 0], window, lengths), refused(number, lengths), "call {call}, {window:?}");
+                    assert_eq!(ask(i, window, lengths), refused(number, lengths), "call {call}, {window:?}");
                 }
             }
         }
     }
+}
+
+/// F starts at 2, and has an element 2; B has an element 1.
+#[test]
+fn each_index_is_held_against_its_own_sheet() {
     for j in [2, 65_536, 1 << 32, u64::MAX] {
         assert_eq!(ask(PAIR_MOVE, [0, j], (2, 14), [12, 12]), refused(ELEMENT, [12, 12]));
         assert_eq!(ask(PAIR_MOVE, [0, j], (1, 14), [12, 12]), refused(ELEMENT, [12, 12]));
     }
-    // F has an element 2, B an element 1.
     assert_eq!(ask(PAIR_MOVE, [2, 1], (2, 14), [12, 12]).number, 0);
     assert_eq!(ask(PAIR_MOVE, [1, 2], (2, 14), [12, 12]).number, ELEMENT);
 }
