@@ -7,7 +7,7 @@ use borrow.Author.Tests.{eq-eqb, ne-eqb}
 use lib.Dec.{eqb}
 use lib.ListN.{length}
 use Rattle.openings.specs.Said.{Said, Outcome}
-use Rattle.astrephon.specs.Shares.{sharedCall}
+use Rattle.astrephon.specs.Shares.{sharedRunsCall}
 use Rattle.said.specs.declared.Answer.{Answer}
 use Rattle.said.specs.Answers.{answerOf}
 use Rattle.answers.specs.declared.calls.Reply.{Reply}
@@ -48,11 +48,11 @@ replied-asked call xs into is n6 n7 n8 n9 n10 n11 =
 module _ (xs into : List ℕ) {sheet sheet' slots : List ℕ} {i j a b n : ℕ}
     (long : n ≡ length into / 8) (taken : slots ≡ slotsIn n into) (one : sheet ≡ sheet1 xs) (two : sheet' ≡ sheet2 xs)
     (is-i : i ≡ iOf xs) (is-j : j ≡ jOf xs) (is-a : a ≡ aOf xs) (is-b : b ≡ bOf xs) where
-  called : sharedCall sheet sheet' i j a b slots ≡ sharing xs (slotsOf into)
+  called : sharedRunsCall sheet sheet' i j a b slots ≡ sharing xs (slotsOf into)
   called = cc
 
   pub shared-left : {A : Type 0} (says : A → Said) (answered : A) {answer : Answer} {later after : List ℕ} → answer ≡ answerOf (says answered)
-      → (says answered ≡ sharedCall sheet sheet' i j a b slots .says) × (later ≡ sharedCall sheet sheet' i j a b slots .later) → after ≡ withSlots later into
+      → (says answered ≡ sharedRunsCall sheet sheet' i j a b slots .says) × (later ≡ sharedRunsCall sheet sheet' i j a b slots .later) → after ≡ withSlots later into
       → Tells (sharedOutcome xs into) answer after
   unfolding sharedOutcome
   shared-left says answered is made put =

@@ -8,10 +8,10 @@ use lib.ListN.{length}
 use Rattle.openings.specs.Said.{Said, Outcome}
 use Rattle.astrephon.specs.Check.{checkCall}
 use Rattle.astrephon.specs.Maps.{exactCall, nextCall, inverseCall, spanCall}
-use Rattle.astrephon.specs.Shares.{sharedCall}
-use Rattle.astrephon.specs.Carries.{measuredCall, gatheredCall, scatteredCall}
-use Rattle.astrephon.specs.Moves.{movedCall, pairMovedCall}
-use Rattle.astrephon.specs.Texts.{writtenCall}
+use Rattle.astrephon.specs.Shares.{sharedRunsCall}
+use Rattle.astrephon.specs.Carries.{packedLengthCall, gatherCall, scatterCall}
+use Rattle.astrephon.specs.Moves.{moveCall, pairMoveCall}
+use Rattle.astrephon.specs.Texts.{listingCall}
 use Rattle.said.specs.declared.Answer.{Answer}
 use Rattle.said.specs.Answers.{answerOf}
 use Rattle.answers.specs.declared.calls.Reply.{Reply}
@@ -74,32 +74,32 @@ abbrev pub spanSaid : List ℕ → Said
 spanSaid xs = spanCall (sheet1 xs) (iOf xs) (aOf xs) (bOf xs)
 
 abbrev pub packedSaid : List ℕ → Said
-packedSaid xs = measuredCall (sheet1 xs) (iOf xs) (aOf xs) (bOf xs)
+packedSaid xs = packedLengthCall (sheet1 xs) (iOf xs) (aOf xs) (bOf xs)
 
 -- ---- and those that write say, and leave in the destination buffer: one element's bytes, from a file buffer into a packed one and back
 abbrev pub gatherOutcome : List ℕ → (into : List ℕ) → Outcome
-gatherOutcome xs into = gatheredCall (sheet1 xs) (iOf xs) (aOf xs) (bOf xs) (fromOf xs) into
+gatherOutcome xs into = gatherCall (sheet1 xs) (iOf xs) (aOf xs) (bOf xs) (fromOf xs) into
 
 abbrev pub scatterOutcome : List ℕ → (into : List ℕ) → Outcome
-scatterOutcome xs into = scatteredCall (sheet1 xs) (iOf xs) (aOf xs) (bOf xs) (fromOf xs) into
+scatterOutcome xs into = scatterCall (sheet1 xs) (iOf xs) (aOf xs) (bOf xs) (fromOf xs) into
 
 -- from a tray of sheet 1's layout into one of sheet 2's: all bytes, and those that two elements share
 abbrev pub moveOutcome : List ℕ → (into : List ℕ) → Outcome
-moveOutcome xs into = movedCall (sheet1 xs) (sheet2 xs) (aOf xs) (bOf xs) (fromOf xs) into
+moveOutcome xs into = moveCall (sheet1 xs) (sheet2 xs) (aOf xs) (bOf xs) (fromOf xs) into
 
 abbrev pub pairMoveOutcome : List ℕ → (into : List ℕ) → Outcome
-pairMoveOutcome xs into = pairMovedCall (sheet1 xs) (sheet2 xs) (iOf xs) (jOf xs) (aOf xs) (bOf xs) (fromOf xs) into
+pairMoveOutcome xs into = pairMoveCall (sheet1 xs) (sheet2 xs) (iOf xs) (jOf xs) (aOf xs) (bOf xs) (fromOf xs) into
 
 -- shared runs: the list is the buffer's whole slots. What the call leaves in them is put back; bytes behind the last whole slot stay
 abbrev pub sharing : List ℕ → (slots : List ℕ) → Outcome
-sharing xs slots = sharedCall (sheet1 xs) (sheet2 xs) (iOf xs) (jOf xs) (aOf xs) (bOf xs) slots
+sharing xs slots = sharedRunsCall (sheet1 xs) (sheet2 xs) (iOf xs) (jOf xs) (aOf xs) (bOf xs) slots
 
 unfoldable pub sharedOutcome : List ℕ → (into : List ℕ) → Outcome
 sharedOutcome xs into = record { says = sharing xs (slotsOf into) .says; later = withSlots (sharing xs (slotsOf into) .later) into }
 
 -- the listing of sheet 1
 abbrev pub listingOutcome : List ℕ → (into : List ℕ) → Outcome
-listingOutcome xs into = writtenCall (sheet1 xs) into
+listingOutcome xs into = listingCall (sheet1 xs) into
 
 -- an answer that says what an outcome says, and a buffer that it leaves
 pub record Tells (o : Outcome) (answer : Answer) (later : List ℕ) : Type 0 where

@@ -1,7 +1,7 @@
--- WHERE A CALL MOVES BYTES: accepted sheets, an element that is there, a window that starts in them, and buffers of the lengths asked for. Assumes nothing.
+-- WHERE A CALL MOVES BYTES: accepted sheets, an element that is there, a window of them, and buffers of the lengths asked for. Assumes nothing.
 use mathlib.Core.Path.{_≡_, refl, sym, _∙_}
 use mathlib.Core.List.{List, [], _∷_}
-use Prim.Native.Nat.{ℕ, _-_, _≤_, _<_, max}
+use Prim.Native.Nat.{ℕ, _-_, _≤_, _<_}
 use native.Mathlib.Omega.{arith}
 use lib.ListN.{length}
 use borrow.Author.Tests.{le-leb}
@@ -12,14 +12,14 @@ use Rattle.sheets.specs.Refusals.{firstFault}
 use Rattle.sheets.specs.Sheet.{readSheet}
 use Rattle.openings.specs.Said.{Said, done}
 use Rattle.openings.specs.Refusals.{ELEMENT, callRefusal}
-use Rattle.openings.specs.Offsets.{LIMIT, offsetsOf, elementTest, pairTests, unlessWindow}
-use Rattle.openings.specs.Buffers.{packedLength}
+use Rattle.openings.specs.Offsets.{LIMIT, offsetsOf, elementTest, pairTests, bothFrom, unlessWindow}
+use Rattle.openings.specs.Buffers.{packedLength, trayTests}
 use Rattle.openings.proofs.Orders.{row-there, sheet-passed, fault-refused, fault-passed, left-held, writes}
 use Rattle.openings.proofs.Opens.{element-on}
 use Rattle.openings.proofs.PairOpens.{sheets-on, elements-on}
 use Rattle.openings.proofs.Faults.{range-fine, buffer-fine, trays-buffers}
-use Rattle.astrephon.specs.Carries.{gatheredOf, scatteredOf, gatheredCall, scatteredCall}
-use Rattle.astrephon.specs.Moves.{layoutOf, trayTests, movedOf, pairMovedOf, movedCall, pairMovedCall}
+use Rattle.astrephon.specs.Carries.{gatherOf, scatterOf, gatherCall, scatterCall}
+use Rattle.astrephon.specs.Moves.{elementsRead, moveOf, pairMoveOf, moveCall, pairMoveCall}
 use Rattle.astrephon.specs.declared.Carried.{Carried}
 use Rattle.astrephon.specs.declared.Carried.the-variants.{Done}
 use Rattle.astrephon.specs.Sequences.{Takes, Forward}
@@ -36,14 +36,14 @@ module _ {a b : ℕ} (W : Forward a b) where
     window-on there next = fault-passed next _ 0 (range-fine LIMIT _ a b (W .forward) (X .after) (W .near)) refl ∙ element-on r e _ (X .fine) there
 
     pub gather-does : e < r .layout .elements → (file held : List ℕ) → length file ≡ b - a → length held ≡ packedLength r e a b
-        → let outcome = gatheredCall xs e a b file held in (done [] ≡ outcome .says) × (gathered (offsetsOf r e) a (b - a) (inFile a file) ≡ outcome .later)
-    unfolding gatheredOf
+        → let outcome = gatherCall xs e a b file held in (done [] ≡ outcome .says) × (gathered (offsetsOf r e) a (b - a) (inFile a file) ≡ outcome .later)
+    unfolding gatherOf
     gather-does there file held long packed =
         writes held _ (fault-passed _ _ 0 (buffer-fine (length file) (b - a) (length held) (packedLength r e a b) long packed) refl ∙ window-on there _) refl
 
     pub scatter-does : e < r .layout .elements → (packed held : List ℕ) → length held ≡ b - a → length packed ≡ packedLength r e a b
-        → let outcome = scatteredCall xs e a b packed held in (done [] ≡ outcome .says) × (scattered (offsetsOf r e) a (b - a) packed held ≡ outcome .later)
-    unfolding scatteredOf
+        → let outcome = scatterCall xs e a b packed held in (done [] ≡ outcome .says) × (scattered (offsetsOf r e) a (b - a) packed held ≡ outcome .later)
+    unfolding scatterOf
     scatter-does there packed held long count =
         writes held _ (fault-passed _ _ 0 (buffer-fine (length held) (b - a) (length packed) (packedLength r e a b) long count) refl ∙ window-on there _) refl
 
@@ -56,11 +56,11 @@ module _ {a b : ℕ} (W : Forward a b) where
       scatter-done long count p = carried-same answer Done (p .0 ∙ sym (scatter-does there from held long count .0))
 
     -- an element that is not there: nothing is written
-    pub scatter-absent : r .layout .elements ≤ e → (packed held : List ℕ) → scatteredCall xs e a b packed held .later ≡ held
-    unfolding scatteredOf
+    pub scatter-absent : r .layout .elements ≤ e → (packed held : List ℕ) → scatterCall xs e a b packed held .later ≡ held
+    unfolding scatterOf
     scatter-absent none packed held =
         left-held held _
-        (fault-refused _ (elementTest r e ∷ []) ELEMENT (row-there ELEMENT _ (le-leb _ _ none)) (callRefusal ELEMENT 0) refl (λ z. absurd (omega arith)) ∙ sheet-passed _ 1 r (X .fine))
+        (fault-refused _ (elementTest (r .layout .elements) e ∷ []) ELEMENT (row-there ELEMENT _ (le-leb _ _ none)) (callRefusal ELEMENT 0) refl (λ z. absurd (omega arith)) ∙ sheet-passed _ 1 r (X .fine))
 
   -- ---- moves
   module _ {xs ys : List ℕ} (X : Takes xs a) (Y : Takes ys a) (t held : List ℕ) where
@@ -71,19 +71,19 @@ module _ {a b : ℕ} (W : Forward a b) where
     r2 = readSheet ys
 
     module _ (one : length t ≡ b - a) (two : length held ≡ b - a) where
-      no-tray-fault : 0 ≡ firstFault (trayTests r1 r2 a b t held)
+      no-tray-fault : 0 ≡ firstFault (trayTests (bothFrom r1 r2) a b (length t) (length held))
       no-tray-fault =
-          trays-buffers (max (r1 .layout .displacement) (r2 .layout .displacement)) a b (length t) (length held) 0 0
+          trays-buffers (bothFrom r1 r2) a b (length t) (length held) 0 0
           (range-fine LIMIT _ a b (W .forward) (omega (arith, X .after, Y .after)) (W .near)) refl
           (buffer-fine (length t) (b - a) (length held) (b - a) one two)
 
-      pub move-does : let outcome = movedCall xs ys a b t held in (done [] ≡ outcome .says) × (moved (layoutOf r1) (layoutOf r2) a (b - a) t ≡ outcome .later)
-      unfolding movedOf
+      pub move-does : let outcome = moveCall xs ys a b t held in (done [] ≡ outcome .says) × (moved (elementsRead r1) (elementsRead r2) a (b - a) t ≡ outcome .later)
+      unfolding moveOf
       move-does = writes held _ (fault-passed _ _ 0 no-tray-fault refl ∙ sheets-on _ r1 r2 (X .fine) (Y .fine)) refl
 
       pub pair-does : (i j : ℕ) → i < r1 .layout .elements → j < r2 .layout .elements
-          → let outcome = pairMovedCall xs ys i j a b t held in (done [] ≡ outcome .says) × (pairMoved (layoutOf r1) (layoutOf r2) a (b - a) t i j held ≡ outcome .later)
-      unfolding pairMovedOf
+          → let outcome = pairMoveCall xs ys i j a b t held in (done [] ≡ outcome .says) × (pairMoved (elementsRead r1) (elementsRead r2) a (b - a) t i j held ≡ outcome .later)
+      unfolding pairMoveOf
       pair-does i j first second = writes held _ (fault-passed _ _ 0 no-tray-fault refl ∙ elements-on r1 r2 i j _ (X .fine) (Y .fine) first second) refl
 
       module _ (m : Made 4) (answer : Carried) (later : List ℕ) where
@@ -94,7 +94,7 @@ module _ {a b : ℕ} (W : Forward a b) where
         pair-done i j first second p = carried-same answer Done (p .0 ∙ sym (pair-does i j first second .0))
 
     -- an index that is none: nothing is written
-    pub pair-absent : (i j : ℕ) → ELEMENT ≡ firstFault (pairTests (r1 .layout .elements) i (r2 .layout .elements) j) → pairMovedCall xs ys i j a b t held .later ≡ held
-    unfolding pairMovedOf
+    pub pair-absent : (i j : ℕ) → ELEMENT ≡ firstFault (pairTests (r1 .layout .elements) i (r2 .layout .elements) j) → pairMoveCall xs ys i j a b t held .later ≡ held
+    unfolding pairMoveOf
     pair-absent i j none =
         left-held held _ (fault-refused _ _ ELEMENT none (callRefusal ELEMENT 0) refl (λ z. absurd (omega arith)) ∙ sheets-on _ r1 r2 (X .fine) (Y .fine))

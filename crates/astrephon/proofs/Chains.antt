@@ -14,7 +14,7 @@ use Rattle.counting.proofs.Trays.{tray-ext, tray-at, tray-of}
 use Rattle.counting.proofs.Moves.{length-moved, moved-moved, length-pair, pairs-move}
 use Rattle.sheets.specs.Sheet.{readSheet}
 use Rattle.openings.proofs.Faults.{pair-first, pair-second}
-use Rattle.astrephon.specs.Moves.{layoutOf, pairMovedCall}
+use Rattle.astrephon.specs.Moves.{elementsRead, pairMoveCall}
 use Rattle.astrephon.specs.Sequences.{Takes, Forward, Stop, AllTake}
 use Rattle.astrephon.proofs.Sequences.{Moved, Chain, Pairs}
 use Rattle.astrephon.proofs.Accepting.{move-does, pair-does, pair-absent}
@@ -27,21 +27,21 @@ none-right false e = refl
 module _ {a b : ℕ} (W : Forward a b) where
   -- what a move leaves
   move-leaves : {xs ys : List ℕ} (X : Takes xs a) (Y : Takes ys a) (t held later : List ℕ) → length t ≡ b - a → length held ≡ b - a → Moved xs ys a b t held later
-      → later ≡ moved (layoutOf (readSheet xs)) (layoutOf (readSheet ys)) a (b - a) t
+      → later ≡ moved (elementsRead (readSheet xs)) (elementsRead (readSheet ys)) a (b - a) t
   move-leaves X Y t held later one two made = made .2 .1 ∙ sym (move-does W X Y t held one two .1)
 
   chain-leaves : {xs zs : List ℕ} (X : Takes xs a) (stops : List Stop) → AllTake stops a b → (Z : Takes zs a) (held : List ℕ) → length held ≡ b - a
       → (t last : List ℕ) → length t ≡ b - a → Chain xs (stops ++ ((zs, held) ∷ [])) a b t last
-      → last ≡ moved (layoutOf (readSheet xs)) (layoutOf (readSheet zs)) a (b - a) t
+      → last ≡ moved (elementsRead (readSheet xs)) (elementsRead (readSheet zs)) a (b - a) t
   unfolding Chain AllTake
   chain-leaves X [] all Z held two t last one made = made .2 ∙ move-leaves X Z t held (made .0) one two (made .1)
   chain-leaves {xs} {zs} X (s ∷ rest) all Z held two t last one made =
       let S = all .0 in
       let first = move-leaves X S t (s .1) (made .0) one (all .1) (made .1) in
-      let long : length (made .0) ≡ b - a = ap length first ∙ length-moved (layoutOf (readSheet xs)) (layoutOf (readSheet (s .0))) a (b - a) (shared-out S (b - a)) t in
+      let long : length (made .0) ≡ b - a = ap length first ∙ length-moved (elementsRead (readSheet xs)) (elementsRead (readSheet (s .0))) a (b - a) (shared-out S (b - a)) t in
       chain-leaves S rest (all .2) Z held two (made .0) last long (made .2)
-      ∙ ap (moved (layoutOf (readSheet (s .0))) (layoutOf (readSheet zs)) a (b - a)) first
-      ∙ moved-moved (layoutOf (readSheet xs)) (layoutOf (readSheet (s .0))) (layoutOf (readSheet zs)) a (b - a) (shared-out S (b - a)) t
+      ∙ ap (moved (elementsRead (readSheet (s .0))) (elementsRead (readSheet zs)) a (b - a)) first
+      ∙ moved-moved (elementsRead (readSheet xs)) (elementsRead (readSheet (s .0))) (elementsRead (readSheet zs)) a (b - a) (shared-out S (b - a)) t
 
   -- A CHAIN of two or more sheets moves as the first to the last does at once
   pub chain-moves : {xs zs : List ℕ} (X : Takes xs a) (stops : List Stop) → AllTake stops a b → (Z : Takes zs a) (held : List ℕ) → length held ≡ b - a
@@ -55,15 +55,15 @@ module _ {a b : ℕ} (W : Forward a b) where
       → (t last : List ℕ) → length t ≡ b - a → Chain xs (stops ++ ((xs, held) ∷ [])) a b t last → last ≡ t
   unfolding moved
   chain-restores {xs} X stops all held two t last one made =
-      chain-leaves X stops all X held two t last one made ∙ tray-of (layoutOf (readSheet xs)) a (b - a) (shared-out X (b - a)) t one
+      chain-leaves X stops all X held two t last one made ∙ tray-of (elementsRead (readSheet xs)) a (b - a) (shared-out X (b - a)) t one
 
   -- ---- pairs
   module _ {xs ys : List ℕ} (X : Takes xs a) (Y : Takes ys a) (t : List ℕ) (one : length t ≡ b - a) where
     abbrev L : Elements
-    L = layoutOf (readSheet xs)
+    L = elementsRead (readSheet xs)
 
     abbrev M : Elements
-    M = layoutOf (readSheet ys)
+    M = elementsRead (readSheet ys)
 
     -- a move takes the tray of any bytes to the other tray of the same bytes
     pub move-trays : (f : ℕ → ℕ) (held later : List ℕ) → t ≡ tray L a (b - a) f → length held ≡ b - a → Moved xs ys a b t held later → later ≡ tray M a (b - a) f
@@ -78,7 +78,7 @@ module _ {a b : ℕ} (W : Forward a b) where
     shares-none i j held two none =
         sym (tray-of M a (b - a) (shared-out Y (b - a)) held two) ∙ tray-ext M a (b - a) _ _ (λ x _ _ _. rw (none x) refl)
 
-    pair-says : (i j : ℕ) (held : List ℕ) → length held ≡ b - a → pairMovedCall xs ys i j a b t held .later ≡ pairMoved L M a (b - a) t i j held
+    pair-says : (i j : ℕ) (held : List ℕ) → length held ≡ b - a → pairMoveCall xs ys i j a b t held .later ≡ pairMoved L M a (b - a) t i j held
     pair-says i j held two = ⊎-elim
         (λ first. ⊎-elim
         (λ second. sym (pair-does W X Y t held one two i j first second .1))

@@ -1,6 +1,6 @@
 -- THE CONTRACTS of the calls, as the checker has them. `Post` of a function is what its `ensures` asks of the arguments, the answer and what is left of what
--- was lent; here it is said of contents, wherever they lie in memory. What is proved of these holds of every program that meets the contracts, and of no
--- contract that says less. Assumes nothing: these are definitions.
+-- was lent; here it is said of contents, wherever they lie in memory. What is proved of these holds of every program that meets the contracts, and is
+-- checked anew against whatever an `ensures` says. Assumes nothing: these are definitions.
 use mathlib.Core.List.{List}
 use Prim.Native.Nat.{ℕ}
 use base.Fml.{GName}

@@ -25,12 +25,11 @@ use Rattle.openings.specs.Said.{Said, done, refused, Outcome, afterwards}
 use Rattle.openings.specs.Refusals.{BEFORE, FOREIGN, ROOM, unlessSheet, unlessFault}
 use Rattle.openings.specs.Offsets.{offsetsOf}
 use Rattle.runs.specs.Listing.{listOf}
-use Rattle.astrephon.specs.Check.{checkedOf, checkCall}
+use Rattle.astrephon.specs.Check.{checkOf, checkCall}
 use Rattle.astrephon.specs.Maps.{exactOf, nextOf, exactCall, nextCall, inverseCall}
-use Rattle.astrephon.specs.Shares.{unlessRoom, sharedCall}
-use Rattle.astrephon.specs.Moves.{movedCall}
-use Rattle.astrephon.specs.Moves as calls
-use Rattle.astrephon.specs.Texts.{writtenOf, writtenCall}
+use Rattle.astrephon.specs.Shares.{unlessRoom, sharedRunsCall}
+use Rattle.astrephon.specs.Moves.{elementsRead, moveCall}
+use Rattle.astrephon.specs.Texts.{textOutcome, listingCall}
 use Rattle.astrephon.proofs.Undoing.{inverse-of}
 use Rattle.astrephon.proofs.Panel.{sheetC, panel-exact}
 use Rattle.astrephon.proofs.TrayFigures.{layoutA, layoutB, layouts, A-to-B, B-to-A}
@@ -71,18 +70,18 @@ refusedCall number place = refused number 0 place NO-FLAG
 
 -- the listing of a sheet, into a buffer of nines that is two bytes longer
 abbrev lists : (sheet text : List ℕ) → Figure
-lists sheet text = writing (writtenCall sheet (replicate (length text + 2) 9)) (done (length text ∷ [])) (text ++ (9 ∷ 9 ∷ []))
+lists sheet text = writing (listingCall sheet (replicate (length text + 2) 9)) (done (length text ∷ [])) (text ++ (9 ∷ 9 ∷ []))
 
 -- the shared runs of the first element of each, from 0 to b
 abbrev shares : (first second : List ℕ) → (b : ℕ) → (list : List ℕ) → Said → (later : List ℕ) → Figure
-shares first second b list wanted later = writing (sharedCall first second 0 0 0 b list) wanted later
+shares first second b list wanted later = writing (sharedRunsCall first second 0 0 0 b list) wanted later
 
 -- the tray of a sheet, of bytes equal to their offsets; and a move from one to the other, into a buffer of nines
 abbrev trays : List ℕ → (a b : ℕ) → (wanted : List ℕ) → Figure
-trays sheet a b wanted = writing (record { says = done []; later = tray (calls.layoutOf (readSheet sheet)) a (b - a) (λ x. x) }) (done []) wanted
+trays sheet a b wanted = writing (record { says = done []; later = tray (elementsRead (readSheet sheet)) a (b - a) (λ x. x) }) (done []) wanted
 
 abbrev moves : (first second : List ℕ) → (a b : ℕ) → (tray1 tray2 : List ℕ) → Figure
-moves first second a b tray1 tray2 = writing (movedCall first second a b tray1 (replicate (length tray1) 9)) (done []) tray2
+moves first second a b tray1 tray2 = writing (moveCall first second a b tray1 (replicate (length tray1) 9)) (done []) tray2
 
 -- lists whose slots all hold 9
 abbrev sevenSlots : List ℕ
@@ -145,7 +144,7 @@ table = computed ++ reasoned
 
 computed-hold : map (λ (f : Figure). f .says) computed ≡ map (λ (f : Figure). f .wanted) computed
 unfolding computed sheetF sheetHole sheetOverlap encode elementsBytes elementBytes forestBytes familyBytes two four width total flat totals flats
-    elementsAt layoutOf checkedOf exactOf nextOf writtenOf offsetsOf unlessSheet unlessFault afterwards readSheet answer judged accepted refusal
+    elementsAt layoutOf checkOf exactOf nextOf textOutcome offsetsOf unlessSheet unlessFault afterwards readSheet answer judged accepted refusal
     firstUneven sizes elementsOf elementsFrom forestFrom siblingsFrom fault bodyTests elementTests headerTests familyTests badSegment familyRecord
     headTests lengthOf le16 le32 andThen unless firstFault times forestAt siblings sizeOf endOf has inSegments anyBelow countBelow stretch nth
     word decimalIn listing acceptedLines layoutLine elementLines elementLine refusalLine flagWord
@@ -162,15 +161,15 @@ exact-F = refl
 inverse-F : inverseCall sheetF 1 2 ≡ done (10 ∷ [])
 inverse-F = inverse-of sheetF 1 10 2 exact-F
 
-seven-A-B : sharedCall sheetA sheetB 0 0 0 12 sevenSlots ≡ record { says = refusedCall ROOM 2; later = sevenSlots }
+seven-A-B : sharedRunsCall sheetA sheetB 0 0 0 12 sevenSlots ≡ record { says = refusedCall ROOM 2; later = sevenSlots }
 unfolding listedOf unlessRoom afterwards listOf runsOf glue has inSegments anyBelow countBelow
 seven-A-B = shared-A-B sevenSlots
 
-eight-A-B : sharedCall sheetA sheetB 0 0 0 12 eightSlots ≡ record { says = done (2 ∷ []); later = 0 ∷ 1 ∷ 0 ∷ 0 ∷ 6 ∷ 1 ∷ 2 ∷ 3 ∷ [] }
+eight-A-B : sharedRunsCall sheetA sheetB 0 0 0 12 eightSlots ≡ record { says = done (2 ∷ []); later = 0 ∷ 1 ∷ 0 ∷ 0 ∷ 6 ∷ 1 ∷ 2 ∷ 3 ∷ [] }
 unfolding listedOf unlessRoom afterwards listOf runsOf glue has inSegments anyBelow countBelow
 eight-A-B = shared-A-B eightSlots
 
-eight-pairs-singles : sharedCall sheetPairs sheetSingles 0 0 0 32 eightSlots ≡ record { says = done (2 ∷ []); later = 0 ∷ 1 ∷ 0 ∷ 0 ∷ 16 ∷ 1 ∷ 4 ∷ 4 ∷ [] }
+eight-pairs-singles : sharedRunsCall sheetPairs sheetSingles 0 0 0 32 eightSlots ≡ record { says = done (2 ∷ []); later = 0 ∷ 1 ∷ 0 ∷ 0 ∷ 16 ∷ 1 ∷ 4 ∷ 4 ∷ [] }
 unfolding listedOf unlessRoom afterwards listOf runsOf glue pairs singles has inSegments anyBelow countBelow
 eight-pairs-singles = shared-pairs-singles eightSlots
 
@@ -183,11 +182,11 @@ moves-A-B : (moved layoutA layoutB 0 12 longA ≡ longB) × (moved layoutB layou
 unfolding moved tray gathered trayPlace countIn countBelow has inSegments anyBelow
 moves-A-B = (refl, refl, refl, refl)
 
-tray-says : (sheet : List ℕ) (L : Elements) → calls.layoutOf (readSheet sheet) ≡ L → (a b : ℕ) (wanted : List ℕ) → tray L a (b - a) (λ x. x) ≡ wanted
+tray-says : (sheet : List ℕ) (L : Elements) → elementsRead (readSheet sheet) ≡ L → (a b : ℕ) (wanted : List ℕ) → tray L a (b - a) (λ x. x) ≡ wanted
     → trays sheet a b wanted .says ≡ trays sheet a b wanted .wanted
 tray-says sheet L is a b wanted e = λ i. record { says = done []; later = (ap (λ (M : Elements). tray M a (b - a) (λ x. x)) is ∙ e) i }
 
-move-says : (first second : List ℕ) (a b : ℕ) (tray1 tray2 later : List ℕ) → movedCall first second a b tray1 (replicate (length tray1) 9) ≡ record { says = done []; later = later } → later ≡ tray2
+move-says : (first second : List ℕ) (a b : ℕ) (tray1 tray2 later : List ℕ) → moveCall first second a b tray1 (replicate (length tray1) 9) ≡ record { says = done []; later = later } → later ≡ tray2
     → moves first second a b tray1 tray2 .says ≡ moves first second a b tray1 tray2 .wanted
 move-says first second a b tray1 tray2 later q e = q ∙ (λ i. record { says = done []; later = e i })
 

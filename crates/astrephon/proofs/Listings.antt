@@ -22,7 +22,7 @@ use Rattle.openings.proofs.Verdicts.{verdict-refused, verdict-none}
 use Rattle.openings.proofs.PairOpens.{Paired, paired}
 use Rattle.runs.specs.Walking.{Side·ok, Window·ok}
 use Rattle.runs.specs.Listing.{sharedRuns, listOf, capacity, listAfter}
-use Rattle.astrephon.specs.Shares.{runsOfPair, unlessRoom, sharedOf}
+use Rattle.astrephon.specs.Shares.{runsOfPair, unlessRoom, sharedRunsOf}
 use Rattle.astrephon.proofs.Asks.{side-ok}
 
 -- ---- a list that holds n runs, and one that does not
@@ -53,8 +53,8 @@ module _ (xs ys : List ℕ) (i j a b : ℕ) {o : Pair} {row1 row2 : List ℕ} (O
   abbrev r2 : Reading
   r2 = readSheet ys
 
-  pub shared-closed : (o .refusal .number ≡ 0 → ⊥) → let outcome = sharedOf r1 r2 i j a b held in (refusalSays (o .refusal) ≡ outcome .says) × (held ≡ outcome .later)
-  unfolding sharedOf
+  pub shared-closed : (o .refusal .number ≡ 0 → ⊥) → let outcome = sharedRunsOf r1 r2 i j a b held in (refusalSays (o .refusal) ≡ outcome .says) × (held ≡ outcome .later)
+  unfolding sharedRunsOf
   shared-closed d = writes-not held _ (o .refusal) (verdict-refused (O .verdict) d _)
 
   module _ (z : o .refusal .number ≡ 0) where
@@ -83,16 +83,16 @@ module _ (xs ys : List ℕ) (i j a b : ℕ) {o : Pair} {row1 row2 : List ℕ} (O
       left : later ≡ listAfter (offsetsOf r1 i) (offsetsOf r2 j) shared held
       left = list ∙ ap₂ (λ (p q : ℕ → Bool). listAfter p q (sharedRuns p q a b) held) (known .one .is) (known .two .is)
 
-      pub shared-room : (f : Refusal) → f ≡ callRefusal ROOM n → capacity held < n → let outcome = sharedOf r1 r2 i j a b held in (refusalSays f ≡ outcome .says) × (later ≡ outcome .later)
-      unfolding sharedOf
+      pub shared-room : (f : Refusal) → f ≡ callRefusal ROOM n → capacity held < n → let outcome = sharedRunsOf r1 r2 i j a b held in (refusalSays f ≡ outcome .says) × (later ≡ outcome .later)
+      unfolding sharedRunsOf
       shared-room f made h =
           let over : capacity held < length shared = omega (arith, number) in
           let refuses = room-refused (length shared) held (done (length shared ∷ [])) over f (made ∙ ap (callRefusal ROOM) number) in
           let W = writes-not held _ f (refuses ∙ verdict-none (O .verdict) z _) in
           (W .0, left ∙ none-listed _ _ shared held over ∙ W .1)
 
-      pub shared-listed : n ≤ capacity held → let outcome = sharedOf r1 r2 i j a b held in (done (n ∷ []) ≡ outcome .says) × (later ≡ outcome .later)
-      unfolding sharedOf
+      pub shared-listed : n ≤ capacity held → let outcome = sharedRunsOf r1 r2 i j a b held in (done (n ∷ []) ≡ outcome .says) × (later ≡ outcome .later)
+      unfolding sharedRunsOf
       shared-listed h =
           let fits : length shared ≤ capacity held = omega (arith, number) in
           writes held _

@@ -121,15 +121,12 @@ module _ {r : Reading} {e : ℕ} {s : Selection} {row : List ℕ} (O : Opened r 
     pub inverse-past : LIMIT ≤ y → (f : Refusal) → f ≡ callRefusal FAR 0 → refusalSays f ≡ inverseOf r e y
     inverse-past h = no-place (nth-none (offsetsOf r e) LIMIT y (omega (arith, count-le (offsetsOf r e) LIMIT)))
 
-    module _ (x : ℕ) (byte : Byte (belongs s row) y x) where
-      byte-of : Byte (offsetsOf r e) y x
-      byte-of = rw (← (O .is)) byte
+    -- a byte at or before y is past the limit, and so is byte y
+    pub inverse-beyond : (z x : ℕ) → Byte (belongs s row) z x → z ≤ y → LIMIT ≤ x → (f : Refusal) → f ≡ callRefusal FAR 0 → refusalSays f ≡ inverseOf r e y
+    inverse-beyond z x byte l h = no-place (inverse-far (offsetsOf r e) z x (rw (← (O .is)) byte) LIMIT h y l)
 
-      pub inverse-beyond : LIMIT ≤ x → (f : Refusal) → f ≡ callRefusal FAR 0 → refusalSays f ≡ inverseOf r e y
-      inverse-beyond h = no-place (inverse-far (offsetsOf r e) y x byte-of LIMIT h)
-
-      pub inverse-at : x < LIMIT → done (x ∷ []) ≡ inverseOf r e y
-      inverse-at h = inverse-own r e (O .fine) (O .there) y x byte-of h
+    pub inverse-at : (x : ℕ) → Byte (belongs s row) y x → x < LIMIT → done (x ∷ []) ≡ inverseOf r e y
+    inverse-at x byte h = inverse-own r e (O .fine) (O .there) y x (rw (← (O .is)) byte) h
 
   -- ---- the span
   module _ (a z n : ℕ) (q : n ≡ firstFault (intervalTests (s .from) a z)) where

@@ -19,7 +19,7 @@ use Rattle.sheets.specs.declared.Reading.{Reading}
 use Rattle.sheets.specs.Sheet.{readSheet}
 use Rattle.openings.specs.Offsets.{offsetsOf}
 use Rattle.openings.specs.Buffers.{packedLength}
-use Rattle.astrephon.specs.Moves.{layoutOf}
+use Rattle.astrephon.specs.Moves.{elementsRead}
 use Rattle.astrephon.specs.Sequences.{Takes, Forward, Packs}
 use Rattle.astrephon.proofs.Sequences.{Gathered, Scattered, Gathers, Scatters}
 use Rattle.astrephon.proofs.Accepting.{gather-does, scatter-does, scatter-absent}
@@ -42,7 +42,7 @@ module _ {xs : List ℕ} {a b : ℕ} (X : Takes xs a) (W : Forward a b) (packs :
   gathers-from k (suc n) h all made = made .4 ∙ ap₂ (λ (u v : List ℕ). u ++ v) (gather-leaves k (omega arith) (made .0) (made .2)) (gathers-from (suc k) n (omega arith) (made .1) (made .3))
 
   -- THE TRAY IS THE GATHERS in element order
-  pub tray-gathers : (all : List ℕ) → Gathers xs packs (tabulated 0 (r .layout .elements) (λ e. e)) a b file all → all ≡ tray (layoutOf r) a (b - a) f
+  pub tray-gathers : (all : List ℕ) → Gathers xs packs (tabulated 0 (r .layout .elements) (λ e. e)) a b file all → all ≡ tray (elementsRead r) a (b - a) f
   tray-gathers all made = gathers-from 0 (r .layout .elements) (omega arith) all made
 
   -- ---- what a scatter of what was gathered leaves. Where the element is none, nothing is written
@@ -50,7 +50,7 @@ module _ {xs : List ℕ} {a b : ℕ} (X : Takes xs a) (W : Forward a b) (packs :
   packed-long e = omega (arith, length-gathered (offsetsOf r e) a (b - a) f, count-window (offsetsOf r e) a b (W .forward))
 
   put-back : List ℕ → ℕ → List ℕ
-  put-back v e = scattered (element (layoutOf r) e) a (b - a) (gathered (element (layoutOf r) e) a (b - a) f) v
+  put-back v e = scattered (element (elementsRead r) e) a (b - a) (gathered (element (elementsRead r) e) a (b - a) f) v
 
   scatter-leaves : (e : ℕ) (packed v later : List ℕ) → length v ≡ b - a → Gathered xs e a b file (packs e) packed → Scattered xs e a b packed v later → later ≡ put-back v e
   unfolding put-back scattered
@@ -68,17 +68,17 @@ module _ {xs : List ℕ} {a b : ℕ} (X : Takes xs a) (W : Forward a b) (packs :
       ∙ tabulated-ext a (b - a) _ _ (λ x _ _. rw (past-none xs e past x) refl))
       (lt-or-le e (r .layout .elements))
 
-  scatters-leave : (elements v last : List ℕ) → length v ≡ b - a → Scatters xs packs elements a b file v last → last ≡ scatteredAll (layoutOf r) a (b - a) f elements v
+  scatters-leave : (elements v last : List ℕ) → length v ≡ b - a → Scatters xs packs elements a b file v last → last ≡ scatteredAll (elementsRead r) a (b - a) f elements v
   unfolding Scatters scatteredAll put-back
   scatters-leave [] v last l made = made
   scatters-leave (e ∷ rest) v last l made =
       let now = scatter-leaves e (made .0) v (made .1) l (made .2) (made .3) in
-      scatters-leave rest (made .1) last (ap length now ∙ length-scattered (element (layoutOf r) e) a (b - a) _ v) (made .4) ∙ ap (λ (u : List ℕ). foldl put-back u rest) now
+      scatters-leave rest (made .1) last (ap length now ∙ length-scattered (element (elementsRead r) e) a (b - a) _ v) (made .4) ∙ ap (λ (u : List ℕ). foldl put-back u rest) now
 
   -- EVERY ELEMENT SCATTERED, in any order and each at least once, rebuilds the file buffer
   pub scatters-rebuild : (elements : List ℕ) → ((e : ℕ) → e < r .layout .elements → List·Memᴰ e elements) → (held last : List ℕ) → length held ≡ b - a
       → Scatters xs packs elements a b file held last → last ≡ file
   scatters-rebuild elements each held last l made =
       scatters-leave elements held last l made
-      ∙ scattered-all (layoutOf r) a (b - a) f (shared-out X (b - a)) elements (λ e h. each e (omega (arith, layout-length r))) held l
+      ∙ scattered-all (elementsRead r) a (b - a) f (shared-out X (b - a)) elements (λ e h. each e (omega (arith, layout-length r))) held l
       ∙ tabulated-whole a (b - a) file whole

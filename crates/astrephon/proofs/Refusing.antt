@@ -13,19 +13,19 @@ use Rattle.openings.specs.declared.Refusal.{Refusal}
 use Rattle.openings.specs.Said.{Said, done}
 use Rattle.openings.specs.Refusals.{FAR, FOREIGN, BUFFER, unlessSheets, unlessFault}
 use Rattle.openings.specs.Table.{OfTable}
-use Rattle.openings.specs.Offsets.{LIMIT, offsetsOf, placeOf, elementTest, pairTests, offsetTests, intervalTests, windowTests, unlessElement, unlessWindow, unlessElements}
-use Rattle.openings.specs.Buffers.{packedLength, bufferTests, unlessBuffers}
+use Rattle.openings.specs.Offsets.{LIMIT, offsetsOf, placeOf, elementTest, pairTests, offsetTests, intervalTests, windowTests, bothFrom, unlessElement, unlessWindow, unlessElements}
+use Rattle.openings.specs.Buffers.{packedLength, bufferTests, unlessBuffers, trayTests, unlessTrays}
 use Rattle.openings.proofs.Orders.{left-held}
 use Rattle.openings.proofs.Tabled.{room-of, done-tabled, sheet-tabled, fault-tabled}
 use Rattle.runs.specs.Listing.{capacity}
 use Rattle.lines.specs.Listing.{listing}
-use Rattle.astrephon.specs.Said.{checkedSays, mappedSays, locatedSays, spannedSays, listedSays, measuredSays, writtenSays, carriedSays}
-use Rattle.astrephon.specs.Check.{checkedOf}
+use Rattle.astrephon.specs.Says.{checkedSays, mappedSays, locatedSays, spannedSays, listedSays, measuredSays, writtenSays, carriedSays}
+use Rattle.astrephon.specs.Check.{checkOf}
 use Rattle.astrephon.specs.Maps.{exactOf, nextOf, inverseOf, spanOf}
-use Rattle.astrephon.specs.Shares.{unlessRoom, sharedOf}
-use Rattle.astrephon.specs.Carries.{measuredOf, gatheredOf, scatteredOf}
-use Rattle.astrephon.specs.Moves.{trayTests, movedOf, pairMovedOf}
-use Rattle.astrephon.specs.Texts.{writtenOf}
+use Rattle.astrephon.specs.Shares.{unlessRoom, sharedRunsOf}
+use Rattle.astrephon.specs.Carries.{packedLengthOf, gatherOf, scatterOf}
+use Rattle.astrephon.specs.Moves.{moveOf, pairMoveOf}
+use Rattle.astrephon.specs.Texts.{textOutcome}
 use Rattle.astrephon.specs.declared.Checked.{Checked}
 use Rattle.astrephon.specs.declared.Mapped.{Mapped}
 use Rattle.astrephon.specs.declared.Located.{Located}
@@ -43,7 +43,7 @@ use Rattle.astrephon.proofs.Contracts.{Made, Check, Exact, Next, Invers
 module _ (next : Said) (h : OfTable next) (xs : List ℕ) where
   element-tabled : (e : ℕ) → OfTable (unlessElement (readSheet xs) e next)
   unfolding listed oneOf
-  element-tabled e = sheet-tabled _ (fault-tabled next h (elementTest (readSheet xs) e ∷ []) refl) xs 1 refl
+  element-tabled e = sheet-tabled _ (fault-tabled next h (elementTest (readSheet xs .layout .elements) e ∷ []) refl) xs 1 refl
 
   sheets-tabled : (ys : List ℕ) → OfTable (unlessSheets (readSheet xs) (readSheet ys) next)
   unfolding oneOf
@@ -66,7 +66,7 @@ buffers-tabled xs e a b file packed =
 -- ---- EACH CALL: what it says is of the table
 module _ (m : Made 1) (xs : List ℕ) where
   pub check-tabled : (r : Checked) → Check m xs r → OfTable (checkedSays r)
-  unfolding checkedOf oneOf
+  unfolding checkOf oneOf
   check-tabled r p = rw p (sheet-tabled _ (done-tabled _) xs 1 refl)
 
   module _ (e : ℕ) where
@@ -88,7 +88,7 @@ module _ (m : Made 1) (xs : List ℕ) where
     span-tabled a z r p = rw p (element-tabled _ (fault-tabled _ (done-tabled _) (intervalTests (readSheet xs .layout .displacement) a z) refl) xs e)
 
     pub packed-len-tabled : (a b : ℕ) (r : Measured) → PackedLen m xs e a b r → OfTable (measuredSays r)
-    unfolding measuredOf
+    unfolding packedLengthOf
     packed-len-tabled a b r p = rw p (window-tabled _ (done-tabled _) xs e a b)
 
 room-tabled : (n : ℕ) (held : List ℕ) (next : Said) → OfTable next → OfTable (unlessRoom n held next)
@@ -97,62 +97,62 @@ room-tabled n held next h = byTest (leb n (capacity held)) (λ fits. rw fits h) 
 
 module _ (m : Made 3) where
   pub shared-runs-tabled : (xs ys : List ℕ) (i j a b : ℕ) (held : List ℕ) (r : Listed) (later : List ℕ) → SharedRuns m xs ys i j a b held r later → OfTable (listedSays r)
-  unfolding sharedOf listed oneOf
+  unfolding sharedRunsOf listed oneOf
   shared-runs-tabled xs ys i j a b held r later p =
       let d = max (readSheet xs .layout .displacement) (readSheet ys .layout .displacement) in
       rw (p .0) (elements-tabled _ (fault-tabled _ (room-tabled _ held _ (done-tabled _)) (windowTests d a b) refl) xs ys i j)
 
   module _ (xs : List ℕ) (e a b : ℕ) (from held : List ℕ) (r : Carried) (later : List ℕ) where
     pub gather-tabled : Gather m xs e a b from held r later → OfTable (carriedSays r)
-    unfolding gatheredOf
+    unfolding gatherOf
     gather-tabled p = rw (p .0) (buffers-tabled xs e a b (length from) (length held))
 
     pub scatter-tabled : Scatter m xs e a b from held r later → OfTable (carriedSays r)
-    unfolding scatteredOf
+    unfolding scatterOf
     scatter-tabled p = rw (p .0) (buffers-tabled xs e a b (length held) (length from))
 
 module _ (m : Made 4) (xs ys : List ℕ) (a b : ℕ) (t held : List ℕ) (r : Carried) (later : List ℕ) where
-  trays-tabled : OfTable (unlessFault (trayTests (readSheet xs) (readSheet ys) a b t held) (done []))
+  trays-tabled : OfTable (unlessTrays (readSheet xs) (readSheet ys) a b (length t) (length held) (done []))
   unfolding listed oneOf
-  trays-tabled = fault-tabled _ (done-tabled []) (trayTests (readSheet xs) (readSheet ys) a b t held) refl
+  trays-tabled = fault-tabled _ (done-tabled []) (trayTests (bothFrom (readSheet xs) (readSheet ys)) a b (length t) (length held)) refl
 
   pub move-tray-tabled : MoveTray m xs ys a b t held r later → OfTable (carriedSays r)
-  unfolding movedOf
+  unfolding moveOf
   move-tray-tabled p = rw (p .0) (sheets-tabled _ trays-tabled xs ys)
 
   pub move-pair-tabled : (i j : ℕ) → MovePair m xs ys i j a b t held r later → OfTable (carriedSays r)
-  unfolding pairMovedOf
+  unfolding pairMoveOf
   move-pair-tabled i j p = rw (p .0) (elements-tabled _ trays-tabled xs ys i j)
 
 pub list-sheet-tabled : (m : Made 2) (xs held : List ℕ) (r : Written) (later : List ℕ) → ListSheet m xs held r later → OfTable (writtenSays r)
-unfolding writtenOf listed oneOf
+unfolding textOutcome listed oneOf
 list-sheet-tabled m xs held r later p = rw (p .0) (fault-tabled _ (done-tabled _) ((BUFFER when ltb (length held) (length (listing (readSheet xs)))) ∷ []) refl)
 
 -- ---- EACH CALL THAT WRITES: refused, it leaves the buffer as it was
 module _ (f : Refusal) (later : List ℕ) where
   module _ (m : Made 3) where
     pub shared-runs-stays : (xs ys : List ℕ) (i j a b : ℕ) (held : List ℕ) → SharedRuns m xs ys i j a b held (listed-as.Refused f) later → later ≡ held
-    unfolding sharedOf
+    unfolding sharedRunsOf
     shared-runs-stays xs ys i j a b held p = p .1 ∙ left-held held _ (p .0)
 
     module _ (xs : List ℕ) (e a b : ℕ) (from held : List ℕ) where
       pub gather-stays : Gather m xs e a b from held (carried-as.Refused f) later → later ≡ held
-      unfolding gatheredOf
+      unfolding gatherOf
       gather-stays p = p .1 ∙ left-held held _ (p .0)
 
       pub scatter-stays : Scatter m xs e a b from held (carried-as.Refused f) later → later ≡ held
-      unfolding scatteredOf
+      unfolding scatterOf
       scatter-stays p = p .1 ∙ left-held held _ (p .0)
 
   module _ (m : Made 4) (xs ys : List ℕ) (a b : ℕ) (t held : List ℕ) where
     pub move-tray-stays : MoveTray m xs ys a b t held (carried-as.Refused f) later → later ≡ held
-    unfolding movedOf
+    unfolding moveOf
     move-tray-stays p = p .1 ∙ left-held held _ (p .0)
 
     pub move-pair-stays : (i j : ℕ) → MovePair m xs ys i j a b t held (carried-as.Refused f) later → later ≡ held
-    unfolding pairMovedOf
+    unfolding pairMoveOf
     move-pair-stays i j p = p .1 ∙ left-held held _ (p .0)
 
   pub list-sheet-stays : (m : Made 2) (xs held : List ℕ) → ListSheet m xs held (written-as.Refused f) later → later ≡ held
-  unfolding writtenOf
+  unfolding textOutcome
   list-sheet-stays m xs held p = p .1 ∙ left-held held _ (p .0)

@@ -25,7 +25,7 @@ use Rattle.openings.proofs.Orders.{fault-passed}
 use Rattle.openings.proofs.PairOpens.{elements-on}
 use Rattle.openings.proofs.Faults.{range-fine}
 use Rattle.runs.specs.Listing.{sharedRuns, listOf}
-use Rattle.astrephon.specs.Shares.{unlessRoom, sharedOf, sharedCall}
+use Rattle.astrephon.specs.Shares.{unlessRoom, sharedRunsOf, sharedRunsCall}
 
 -- one family of one segment without children, as the figures have them
 abbrev pub only : (l r : ℕ) → Forest
@@ -100,8 +100,8 @@ listedOf p q b held =
     writing (unlessRoom (length runs) held (done (length runs ∷ []))) held (listOf p q runs ++ drop (4 * length runs) held)
 
 listed-first : (F G : Forest) (Fs Gs : List Forest) (b : ℕ) → b ≤ LIMIT → (held : List ℕ)
-    → sharedOf (accepted 0 (F ∷ Fs)) (accepted 0 (G ∷ Gs)) 0 0 0 b held ≡ listedOf (offsetsOf (accepted 0 (F ∷ Fs)) 0) (offsetsOf (accepted 0 (G ∷ Gs)) 0) b held
-unfolding sharedOf listedOf
+    → sharedRunsOf (accepted 0 (F ∷ Fs)) (accepted 0 (G ∷ Gs)) 0 0 0 b held ≡ listedOf (offsetsOf (accepted 0 (F ∷ Fs)) 0) (offsetsOf (accepted 0 (G ∷ Gs)) 0) b held
+unfolding sharedRunsOf listedOf
 listed-first F G Fs Gs b near held =
     let p = offsetsOf (accepted 0 (F ∷ Fs)) 0 in
     let q = offsetsOf (accepted 0 (G ∷ Gs)) 0 in
@@ -110,12 +110,12 @@ listed-first F G Fs Gs b near held =
 
 shared-first : (xs ys : List ℕ) (F G : Forest) (Fs Gs : List Forest) (p q : ℕ → Bool) → readSheet xs ≡ accepted 0 (F ∷ Fs) → readSheet ys ≡ accepted 0 (G ∷ Gs)
     → offsetsOf (accepted 0 (F ∷ Fs)) 0 ≡ p → offsetsOf (accepted 0 (G ∷ Gs)) 0 ≡ q → (b : ℕ) → b ≤ LIMIT → (held : List ℕ)
-    → sharedCall xs ys 0 0 0 b held ≡ listedOf p q b held
+    → sharedRunsCall xs ys 0 0 0 b held ≡ listedOf p q b held
 shared-first xs ys F G Fs Gs p q r s u v b near held =
-    ap₂ (λ (one other : Reading). sharedOf one other 0 0 0 b held) r s ∙ listed-first F G Fs Gs b near held ∙ ap₂ (λ (o e : ℕ → Bool). listedOf o e b held) u v
+    ap₂ (λ (one other : Reading). sharedRunsOf one other 0 0 0 b held) r s ∙ listed-first F G Fs Gs b near held ∙ ap₂ (λ (o e : ℕ → Bool). listedOf o e b held) u v
 
-pub shared-A-B : (held : List ℕ) → sharedCall sheetA sheetB 0 0 0 12 held ≡ listedOf (owns 0 6 (has (only 0 1))) (owns 0 4 (has (node 0 0 2 2 nil nil))) 12 held
+pub shared-A-B : (held : List ℕ) → sharedRunsCall sheetA sheetB 0 0 0 12 held ≡ listedOf (owns 0 6 (has (only 0 1))) (owns 0 4 (has (node 0 0 2 2 nil nil))) 12 held
 shared-A-B = shared-first sheetA sheetB _ _ _ _ _ _ (readings .0) (readings .1) (offsets .0) (offsets .1) 12 (omega arith)
 
-pub shared-pairs-singles : (held : List ℕ) → sharedCall sheetPairs sheetSingles 0 0 0 32 held ≡ listedOf (owns 0 32 (has pairs)) (owns 0 32 (has singles)) 32 held
+pub shared-pairs-singles : (held : List ℕ) → sharedRunsCall sheetPairs sheetSingles 0 0 0 32 held ≡ listedOf (owns 0 32 (has pairs)) (owns 0 32 (has singles)) 32 held
 shared-pairs-singles = shared-first sheetPairs sheetSingles _ _ _ _ _ _ (readings .2) (readings .3) (offsets .2) (offsets .3) 32 (omega arith)

@@ -5,7 +5,7 @@ use Prim.Native.Nat.{ℕ}
 use lib.ListN.{getD}
 use Rattle.openings.specs.declared.Refusal.{Refusal}
 use Rattle.openings.specs.Said.{Said, done, refused}
-use Rattle.astrephon.specs.Said.{checkedSays, mappedSays, locatedSays, spannedSays, listedSays, measuredSays, writtenSays, carriedSays}
+use Rattle.astrephon.specs.Says.{checkedSays, mappedSays, locatedSays, spannedSays, listedSays, measuredSays, writtenSays, carriedSays}
 use Rattle.astrephon.specs.declared.Checked.{Checked}
 use Rattle.astrephon.specs.declared.Checked.the-variants as checked
 use Rattle.astrephon.specs.declared.Mapped.{Mapped}
@@ -24,99 +24,99 @@ use Rattle.astrephon.specs.declared.Written.{Written}
 use Rattle.astrephon.specs.declared.Written.the-variants as written
 
 -- ---- an answer by its cases: what is made of the values, and what of a refusal
-answerOf : {A : Type 0} → (work : List ℕ → A) → (refusal : Refusal → A) → Said → A
-answerOf work refusal (done values) = work values
-answerOf work refusal (refused number sheet place flag) = refusal (record { number = number; sheet = sheet; place = place; flag = flag })
+byCases : {A : Type 0} → (work : List ℕ → A) → (refusal : Refusal → A) → Said → A
+byCases work refusal (done values) = work values
+byCases work refusal (refused number sheet place flag) = refusal (record { number = number; sheet = sheet; place = place; flag = flag })
 
 -- what gives every answer back tells answers apart
 told-apart : {A : Type 0} (says : A → Said) (back : Said → A) → ((r : A) → back (says r) ≡ r) → (r s : A) → says r ≡ says s → r ≡ s
 told-apart says back is r s e = sym (is r) ∙ ap back e ∙ is s
 
 -- ---- each type of answer
-checkedOf : Said → Checked
-checkedOf = answerOf (λ values. checked.Accepted (record { size = getD values 0 0; elements = getD values 1 0; displacement = getD values 2 0 })) checked.Refused
+toChecked : Said → Checked
+toChecked = byCases (λ values. checked.Accepted (record { size = getD values 0 0; elements = getD values 1 0; displacement = getD values 2 0 })) checked.Refused
 
-checked-back : (r : Checked) → checkedOf (checkedSays r) ≡ r
-unfolding checkedOf answerOf
+checked-back : (r : Checked) → toChecked (checkedSays r) ≡ r
+unfolding toChecked byCases
 checked-back (checked.Accepted f) = refl
 checked-back (checked.Refused f) = refl
 
 pub checked-same : (r s : Checked) → checkedSays r ≡ checkedSays s → r ≡ s
-checked-same = told-apart checkedSays checkedOf checked-back
+checked-same = told-apart checkedSays toChecked checked-back
 
-mappedOf : Said → Mapped
-mappedOf = answerOf (λ values. mapped.At (record { 0 = getD values 0 0 })) mapped.Refused
+toMapped : Said → Mapped
+toMapped = byCases (λ values. mapped.At (record { 0 = getD values 0 0 })) mapped.Refused
 
-mapped-back : (r : Mapped) → mappedOf (mappedSays r) ≡ r
-unfolding mappedOf answerOf
+mapped-back : (r : Mapped) → toMapped (mappedSays r) ≡ r
+unfolding toMapped byCases
 mapped-back (mapped.At y) = refl
 mapped-back (mapped.Refused f) = refl
 
 pub mapped-same : (r s : Mapped) → mappedSays r ≡ mappedSays s → r ≡ s
-mapped-same = told-apart mappedSays mappedOf mapped-back
+mapped-same = told-apart mappedSays toMapped mapped-back
 
-locatedOf : Said → Located
-locatedOf = answerOf (λ values. located.At (record { 0 = getD values 0 0 })) located.Refused
+toLocated : Said → Located
+toLocated = byCases (λ values. located.At (record { 0 = getD values 0 0 })) located.Refused
 
-located-back : (r : Located) → locatedOf (locatedSays r) ≡ r
-unfolding locatedOf answerOf
+located-back : (r : Located) → toLocated (locatedSays r) ≡ r
+unfolding toLocated byCases
 located-back (located.At x) = refl
 located-back (located.Refused f) = refl
 
 pub located-same : (r s : Located) → locatedSays r ≡ locatedSays s → r ≡ s
-located-same = told-apart locatedSays locatedOf located-back
+located-same = told-apart locatedSays toLocated located-back
 
-spannedOf : Said → Spanned
-spannedOf = answerOf (λ values. spanned.Range (record { 0 = getD values 0 0 }) (record { 0 = getD values 1 0 })) spanned.Refused
+toSpanned : Said → Spanned
+toSpanned = byCases (λ values. spanned.Range (record { 0 = getD values 0 0 }) (record { 0 = getD values 1 0 })) spanned.Refused
 
-spanned-back : (r : Spanned) → spannedOf (spannedSays r) ≡ r
-unfolding spannedOf answerOf
+spanned-back : (r : Spanned) → toSpanned (spannedSays r) ≡ r
+unfolding toSpanned byCases
 spanned-back (spanned.Range first last) = refl
 spanned-back (spanned.Refused f) = refl
 
 pub spanned-same : (r s : Spanned) → spannedSays r ≡ spannedSays s → r ≡ s
-spanned-same = told-apart spannedSays spannedOf spanned-back
+spanned-same = told-apart spannedSays toSpanned spanned-back
 
-listedOf : Said → Listed
-listedOf = answerOf (λ values. listed.Runs (getD values 0 0)) listed.Refused
+toListed : Said → Listed
+toListed = byCases (λ values. listed.Runs (getD values 0 0)) listed.Refused
 
-listed-back : (r : Listed) → listedOf (listedSays r) ≡ r
-unfolding listedOf answerOf
+listed-back : (r : Listed) → toListed (listedSays r) ≡ r
+unfolding toListed byCases
 listed-back (listed.Runs n) = refl
 listed-back (listed.Refused f) = refl
 
 pub listed-same : (r s : Listed) → listedSays r ≡ listedSays s → r ≡ s
-listed-same = told-apart listedSays listedOf listed-back
+listed-same = told-apart listedSays toListed listed-back
 
-measuredOf : Said → Measured
-measuredOf = answerOf (λ values. measured.Bytes (getD values 0 0)) measured.Refused
+toMeasured : Said → Measured
+toMeasured = byCases (λ values. measured.Bytes (getD values 0 0)) measured.Refused
 
-measured-back : (r : Measured) → measuredOf (measuredSays r) ≡ r
-unfolding measuredOf answerOf
+measured-back : (r : Measured) → toMeasured (measuredSays r) ≡ r
+unfolding toMeasured byCases
 measured-back (measured.Bytes n) = refl
 measured-back (measured.Refused f) = refl
 
 pub measured-same : (r s : Measured) → measuredSays r ≡ measuredSays s → r ≡ s
-measured-same = told-apart measuredSays measuredOf measured-back
+measured-same = told-apart measuredSays toMeasured measured-back
 
-writtenOf : Said → Written
-writtenOf = answerOf (λ values. written.Bytes (getD values 0 0)) written.Refused
+toWritten : Said → Written
+toWritten = byCases (λ values. written.Bytes (getD values 0 0)) written.Refused
 
-written-back : (r : Written) → writtenOf (writtenSays r) ≡ r
-unfolding writtenOf answerOf
+written-back : (r : Written) → toWritten (writtenSays r) ≡ r
+unfolding toWritten byCases
 written-back (written.Bytes n) = refl
 written-back (written.Refused f) = refl
 
 pub written-same : (r s : Written) → writtenSays r ≡ writtenSays s → r ≡ s
-written-same = told-apart writtenSays writtenOf written-back
+written-same = told-apart writtenSays toWritten written-back
 
-carriedOf : Said → Carried
-carriedOf = answerOf (λ values. carried.Done) carried.Refused
+toCarried : Said → Carried
+toCarried = byCases (λ values. carried.Done) carried.Refused
 
-carried-back : (r : Carried) → carriedOf (carriedSays r) ≡ r
-unfolding carriedOf answerOf
+carried-back : (r : Carried) → toCarried (carriedSays r) ≡ r
+unfolding toCarried byCases
 carried-back carried.Done = refl
 carried-back (carried.Refused f) = refl
 
 pub carried-same : (r s : Carried) → carriedSays r ≡ carriedSays s → r ≡ s
-carried-same = told-apart carriedSays carriedOf carried-back
+carried-same = told-apart carriedSays toCarried carried-back

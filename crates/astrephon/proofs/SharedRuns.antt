@@ -23,7 +23,7 @@ use Rattle.openings.proofs.PairOpens.{elements-on, elements-through}
 use Rattle.runs.specs.Listing.{both, sharedRuns, listOf, capacity}
 use Rattle.astrephon.specs.declared.Listed.{Listed}
 use Rattle.astrephon.specs.declared.Listed.the-variants.{Runs, Refused}
-use Rattle.astrephon.specs.Shares.{runsOfPair, unlessRoom, sharedOf}
+use Rattle.astrephon.specs.Shares.{runsOfPair, unlessRoom, sharedRunsOf}
 use Rattle.astrephon.proofs.Contracts as contracts
 use Rattle.astrephon.proofs.Saying.{listed-same}
 use Rattle.astrephon.proofs.Listings.{room-refused}
@@ -65,7 +65,7 @@ module _ (m : contracts.Made 3) (xs ys : List ℕ) (i j a b : ℕ) (held later :
   -- THE ANSWER is the number of runs, and the list holds them
   pub shared-says : (n : ℕ) → contracts.SharedRuns m xs ys i j a b held (Runs n) later
       → let runs = runsOfPair r1 r2 i j a b in (n ≡ length runs) × (n ≤ capacity held) × (later ≡ listOf (offsetsOf r1 i) (offsetsOf r2 j) runs ++ drop (4 * length runs) held)
-  unfolding sharedOf
+  unfolding sharedRunsOf
   shared-says n p =
       let runs = runsOfPair r1 r2 i j a b in
       let there = elements-through r1 r2 i j (sym (p .0)) in
@@ -78,7 +78,7 @@ module _ (m : contracts.Made 3) (xs ys : List ℕ) (i j a b : ℕ) (held later :
   pub shared-room-says : r1 .number ≡ 0 → r2 .number ≡ 0 → i < r1 .layout .elements → j < r2 .layout .elements
       → r1 .layout .displacement ≤ a → r2 .layout .displacement ≤ a → a ≤ b → b ≤ LIMIT → capacity held < length (runsOfPair r1 r2 i j a b)
       → (r : Listed) → contracts.SharedRuns m xs ys i j a b held r later → (r ≡ Refused (callRefusal ROOM (length (runsOfPair r1 r2 i j a b)))) × (later ≡ held)
-  unfolding sharedOf
+  unfolding sharedRunsOf
   shared-room-says fine1 fine2 there1 there2 after1 after2 forward near short r p =
       let n = length (runsOfPair r1 r2 i j a b) in
       let refuses =

@@ -22,18 +22,18 @@ use Rattle.openings.proofs.Verdicts.{verdict-refused, verdict-none}
 use Rattle.openings.proofs.Opens.{windowed, count-is, buffered}
 use Rattle.runs.specs.Walking.{Side·ok, Window·ok}
 use Rattle.moves.specs.Walks.{Buffers}
-use Rattle.astrephon.specs.Carries.{measuredOf, gatheredOf, scatteredOf}
+use Rattle.astrephon.specs.Carries.{packedLengthOf, gatherOf, scatterOf}
 use Rattle.astrephon.proofs.Asks.{side-ok}
 
 -- ---- `packed_len`
 module _ (xs : List ℕ) (e a b : ℕ) {o : Opening} {row : List ℕ} (O : Opens (unlessWindow (readSheet xs) e a b) (readSheet xs) e o row) where
-  pub measured-closed : (o .refusal .number ≡ 0 → ⊥) → refusalSays (o .refusal) ≡ measuredOf (readSheet xs) e a b
-  unfolding measuredOf
+  pub measured-closed : (o .refusal .number ≡ 0 → ⊥) → refusalSays (o .refusal) ≡ packedLengthOf (readSheet xs) e a b
+  unfolding packedLengthOf
   measured-closed d = verdict-refused (O .verdict) d _
 
   pub measured-done : o .refusal .number ≡ 0 → (c : ℕ) → c ≡ countBelow (belongs (o .selection) row) b - countBelow (belongs (o .selection) row) a
-      → done (c ∷ []) ≡ measuredOf (readSheet xs) e a b
-  unfolding measuredOf
+      → done (c ∷ []) ≡ packedLengthOf (readSheet xs) e a b
+  unfolding packedLengthOf
   measured-done z c counted = ap (λ (n : ℕ). done (n ∷ [])) (count-is (windowed xs e a b O z) c counted) ∙ verdict-none (O .verdict) z _
 
 -- ---- what the engines ask of what was opened with buffers
@@ -53,25 +53,25 @@ carry-asks xs e a b file packed O z w start end =
 -- ---- `gather` and `scatter`
 module _ (xs : List ℕ) (e a b : ℕ) (from held : List ℕ) {o : Opening} {row : List ℕ} where
   module _ (O : Opens (unlessBuffers (readSheet xs) e a b (length from) (length held)) (readSheet xs) e o row) where
-    pub gathered-closed : (o .refusal .number ≡ 0 → ⊥) → let outcome = gatheredOf (readSheet xs) e a b from held in (refusalSays (o .refusal) ≡ outcome .says) × (held ≡ outcome .later)
-    unfolding gatheredOf
+    pub gathered-closed : (o .refusal .number ≡ 0 → ⊥) → let outcome = gatherOf (readSheet xs) e a b from held in (refusalSays (o .refusal) ≡ outcome .says) × (held ≡ outcome .later)
+    unfolding gatherOf
     gathered-closed d = writes-not held _ (o .refusal) (verdict-refused (O .verdict) d _)
 
     pub gathered-done : o .refusal .number ≡ 0 → (later : List ℕ) → later ≡ gathered (belongs (o .selection) row) a (b - a) (inFile a from)
-        → let outcome = gatheredOf (readSheet xs) e a b from held in (done [] ≡ outcome .says) × (later ≡ outcome .later)
-    unfolding gatheredOf
+        → let outcome = gatherOf (readSheet xs) e a b from held in (done [] ≡ outcome .says) × (later ≡ outcome .later)
+    unfolding gatherOf
     gathered-done z later q =
         let selected = buffered xs e a b (length from) (length held) O z .0 .opened .is in
         writes held _ (verdict-none (O .verdict) z _) (q ∙ ap (λ (p : ℕ → Bool). gathered p a (b - a) (inFile a from)) selected)
 
   module _ (O : Opens (unlessBuffers (readSheet xs) e a b (length held) (length from)) (readSheet xs) e o row) where
-    pub scattered-closed : (o .refusal .number ≡ 0 → ⊥) → let outcome = scatteredOf (readSheet xs) e a b from held in (refusalSays (o .refusal) ≡ outcome .says) × (held ≡ outcome .later)
-    unfolding scatteredOf
+    pub scattered-closed : (o .refusal .number ≡ 0 → ⊥) → let outcome = scatterOf (readSheet xs) e a b from held in (refusalSays (o .refusal) ≡ outcome .says) × (held ≡ outcome .later)
+    unfolding scatterOf
     scattered-closed d = writes-not held _ (o .refusal) (verdict-refused (O .verdict) d _)
 
     pub scattered-done : o .refusal .number ≡ 0 → (later : List ℕ) → later ≡ scattered (belongs (o .selection) row) a (b - a) from held
-        → let outcome = scatteredOf (readSheet xs) e a b from held in (done [] ≡ outcome .says) × (later ≡ outcome .later)
-    unfolding scatteredOf
+        → let outcome = scatterOf (readSheet xs) e a b from held in (done [] ≡ outcome .says) × (later ≡ outcome .later)
+    unfolding scatterOf
     scattered-done z later q =
         let selected = buffered xs e a b (length held) (length from) O z .0 .opened .is in
         writes held _ (verdict-none (O .verdict) z _) (q ∙ ap (λ (p : ℕ → Bool). scattered p a (b - a) from held) selected)

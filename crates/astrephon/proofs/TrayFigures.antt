@@ -17,8 +17,7 @@ use Rattle.sheets.specs.Sheet.{accepted, readSheet}
 use Rattle.sheets.specs.Pattern.{sizes}
 use Rattle.openings.specs.Said.{done}
 use Rattle.openings.specs.Offsets.{LIMIT, offsetsOf}
-use Rattle.astrephon.specs.Moves.{movedCall}
-use Rattle.astrephon.specs.Moves as calls
+use Rattle.astrephon.specs.Moves.{elementsRead, moveCall}
 use Rattle.astrephon.specs.Sequences.{Takes, Forward}
 use Rattle.astrephon.proofs.Accepting.{move-does}
 use Rattle.astrephon.proofs.Samples.{only, elementsA, elementsB, sheetA, sheetB, readings, no-fault-read}
@@ -30,12 +29,12 @@ layoutA = owns 0 6 (has (only 0 1)) ∷ owns 0 6 (has (only 2 3)) ∷ owns 0 6 (
 abbrev pub layoutB : Elements
 layoutB = owns 0 4 (has (node 0 0 2 2 nil nil)) ∷ owns 0 4 (has (node 1 1 2 2 nil nil)) ∷ []
 
-accepted-layouts : (calls.layoutOf (accepted 0 elementsA) ≡ layoutA) × (calls.layoutOf (accepted 0 elementsB) ≡ layoutB)
+accepted-layouts : (elementsRead (accepted 0 elementsA) ≡ layoutA) × (elementsRead (accepted 0 elementsB) ≡ layoutB)
 unfolding accepted tabulated offsetsOf width total flat totals flats elementsAt layoutOf sizes forestAt siblings sizeOf endOf has inSegments anyBelow countBelow
 accepted-layouts = (refl, refl)
 
-pub layouts : (calls.layoutOf (readSheet sheetA) ≡ layoutA) × (calls.layoutOf (readSheet sheetB) ≡ layoutB)
-layouts = (ap calls.layoutOf (readings .0) ∙ accepted-layouts .0, ap calls.layoutOf (readings .1) ∙ accepted-layouts .1)
+pub layouts : (elementsRead (readSheet sheetA) ≡ layoutA) × (elementsRead (readSheet sheetB) ≡ layoutB)
+layouts = (ap elementsRead (readings .0) ∙ accepted-layouts .0, ap elementsRead (readings .1) ∙ accepted-layouts .1)
 
 -- ---- from 0 on both sheets take every window
 from-zero : (Fs : List Forest) (a : ℕ) → accepted 0 Fs .layout .displacement ≤ a
@@ -49,15 +48,15 @@ module _ (a b : ℕ) (forward : a ≤ b) (near : b ≤ LIMIT) (t held : List ℕ
   fits : Forward a b
   fits = record { forward = forward; near = near }
 
-  moves-from : {xs ys : List ℕ} (X : Takes xs a) (Y : Takes ys a) (L M : Elements) → calls.layoutOf (readSheet xs) ≡ L → calls.layoutOf (readSheet ys) ≡ M
-      → movedCall xs ys a b t held ≡ record { says = done []; later = moved L M a (b - a) t }
+  moves-from : {xs ys : List ℕ} (X : Takes xs a) (Y : Takes ys a) (L M : Elements) → elementsRead (readSheet xs) ≡ L → elementsRead (readSheet ys) ≡ M
+      → moveCall xs ys a b t held ≡ record { says = done []; later = moved L M a (b - a) t }
   moves-from {xs} {ys} X Y L M one-is two-is =
       let does = move-does fits X Y t held one two in
       let left = sym (does .1) ∙ ap₂ (λ (O N : Elements). moved O N a (b - a) t) one-is two-is in
       λ i. record { says = sym (does .0) i; later = left i }
 
-  pub A-to-B : movedCall sheetA sheetB a b t held ≡ record { says = done []; later = moved layoutA layoutB a (b - a) t }
+  pub A-to-B : moveCall sheetA sheetB a b t held ≡ record { says = done []; later = moved layoutA layoutB a (b - a) t }
   A-to-B = moves-from (takes sheetA elementsA (readings .0) a) (takes sheetB elementsB (readings .1) a) layoutA layoutB (layouts .0) (layouts .1)
 
-  pub B-to-A : movedCall sheetB sheetA a b t held ≡ record { says = done []; later = moved layoutB layoutA a (b - a) t }
+  pub B-to-A : moveCall sheetB sheetA a b t held ≡ record { says = done []; later = moved layoutB layoutA a (b - a) t }
   B-to-A = moves-from (takes sheetB elementsB (readings .1) a) (takes sheetA elementsA (readings .0) a) layoutB layoutA (layouts .1) (layouts .0)

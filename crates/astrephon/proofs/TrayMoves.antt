@@ -1,6 +1,6 @@
 -- The calls between trays, case by case: both sheets were opened, then the indexes of a pair, the window and the trays are checked. Assumes nothing.
 use mathlib.Core.Path.{_≡_, refl, ap, ap₂, _∙_}
-use mathlib.Core.List.{List, [], _++_}
+use mathlib.Core.List.{List, []}
 use Prim.Native.Nat.{ℕ, _-_, _≤_, max}
 use native.Mathlib.Omega.{arith}
 use lib.ListN.{length}
@@ -16,18 +16,18 @@ use Rattle.maps.proofs.Chosen.{accepted-pattern}
 use Rattle.openings.specs.declared.Refusal.{Refusal}
 use Rattle.openings.specs.declared.Sheets.{Sheets}
 use Rattle.openings.specs.Said.{Said, done, refusalSays}
-use Rattle.openings.specs.Refusals.{callRefusal, unlessSheets, unlessFault}
-use Rattle.openings.specs.Offsets.{LIMIT, offsetsOf, pairTests, windowTests}
-use Rattle.openings.specs.Buffers.{bufferTests}
+use Rattle.openings.specs.Refusals.{callRefusal, unlessSheets}
+use Rattle.openings.specs.Offsets.{LIMIT, offsetsOf, pairTests, bothFrom}
+use Rattle.openings.specs.Buffers.{trayTests, unlessTrays}
 use Rattle.openings.specs.Openings.{OpensSheets}
 use Rattle.openings.proofs.Orders.{fault-refused, fault-passed, writes-not, writes}
 use Rattle.openings.proofs.Verdicts.{verdict-refused, verdict-none}
 use Rattle.openings.proofs.Faults.{trays-known}
 use Rattle.openings.proofs.PairOpens.{both-accepted}
 use Rattle.trays.specs.Parts.{Lengths, Starts}
-use Rattle.astrephon.specs.Moves.{layoutOf, trayTests, movedOf, pairMovedOf}
+use Rattle.astrephon.specs.Moves.{elementsRead, moveOf, pairMoveOf}
 
-layout-is : (r : Reading) → elementsOf (r .layout) (r .size) ≡ layoutOf r
+layout-is : (r : Reading) → elementsOf (r .layout) (r .size) ≡ elementsRead r
 unfolding elementsOf offsetsOf
 layout-is r = refl
 
@@ -45,20 +45,20 @@ module _ (xs ys : List ℕ) {o : Sheets} (S : OpensSheets (readSheet xs) (readSh
   r2 = readSheet ys
 
   -- the engine's elements are the sheets'
-  one-is : elementsOf (o .one .layout) (o .one .size) ≡ layoutOf r1
-  one-is = layout-is (o .one) ∙ ap layoutOf (S .one)
+  one-is : elementsOf (o .one .layout) (o .one .size) ≡ elementsRead r1
+  one-is = layout-is (o .one) ∙ ap elementsRead (S .one)
 
-  two-is : elementsOf (o .two .layout) (o .two .size) ≡ layoutOf r2
-  two-is = layout-is (o .two) ∙ ap layoutOf (S .two)
+  two-is : elementsOf (o .two .layout) (o .two .size) ≡ elementsRead r2
+  two-is = layout-is (o .two) ∙ ap elementsRead (S .two)
 
   -- ---- a sheet is refused
   module _ (d : o .refusal .number ≡ 0 → ⊥) where
-    pub moved-closed : let outcome = movedOf r1 r2 a b t held in (refusalSays (o .refusal) ≡ outcome .says) × (held ≡ outcome .later)
-    unfolding movedOf
+    pub moved-closed : let outcome = moveOf r1 r2 a b t held in (refusalSays (o .refusal) ≡ outcome .says) × (held ≡ outcome .later)
+    unfolding moveOf
     moved-closed = writes-not held _ (o .refusal) (verdict-refused (S .verdict) d _)
 
-    pub pair-closed : (i j : ℕ) → let outcome = pairMovedOf r1 r2 i j a b t held in (refusalSays (o .refusal) ≡ outcome .says) × (held ≡ outcome .later)
-    unfolding pairMovedOf
+    pub pair-closed : (i j : ℕ) → let outcome = pairMoveOf r1 r2 i j a b t held in (refusalSays (o .refusal) ≡ outcome .says) × (held ≡ outcome .later)
+    unfolding pairMoveOf
     pair-closed i j = writes-not held _ (o .refusal) (verdict-refused (S .verdict) d _)
 
   -- ---- both are accepted
@@ -71,15 +71,15 @@ module _ (xs ys : List ℕ) {o : Sheets} (S : OpensSheets (readSheet xs) (readSh
 
     -- ---- from is the larger displacement, and n what refuses the window or a tray
     module _ (from n : ℕ) (larger : from ≡ max (o .one .layout .displacement) (o .two .layout .displacement))
-        (e : n ≡ firstFault (windowTests from a b ++ bufferTests (length t) (b - a) (length held) (b - a))) where
-      tests-are : n ≡ firstFault (trayTests r1 r2 a b t held)
+        (e : n ≡ firstFault (trayTests from a b (length t) (length held))) where
+      tests-are : n ≡ firstFault (trayTests (bothFrom r1 r2) a b (length t) (length held))
       tests-are =
           e
-          ∙ ap (λ (d : ℕ). firstFault (windowTests d a b ++ bufferTests (length t) (b - a) (length held) (b - a))) larger
-          ∙ ap₂ (λ (r s : Reading). firstFault (trayTests r s a b t held)) (S .one) (S .two)
+          ∙ ap (λ (d : ℕ). firstFault (trayTests d a b (length t) (length held))) larger
+          ∙ ap₂ (λ (r s : Reading). firstFault (trayTests (bothFrom r s) a b (length t) (length held))) (S .one) (S .two)
 
-      pub moved-fault : (f : Refusal) → f ≡ callRefusal n 0 → (n ≡ 0 → ⊥) → let outcome = movedOf r1 r2 a b t held in (refusalSays f ≡ outcome .says) × (held ≡ outcome .later)
-      unfolding movedOf
+      pub moved-fault : (f : Refusal) → f ≡ callRefusal n 0 → (n ≡ 0 → ⊥) → let outcome = moveOf r1 r2 a b t held in (refusalSays f ≡ outcome .says) × (held ≡ outcome .later)
+      unfolding moveOf
       moved-fault f made d = writes-not held _ f (fault-refused _ _ n tests-are f made d ∙ sheets-on _)
 
       -- what the engine asks
@@ -96,29 +96,29 @@ module _ (xs ys : List ℕ) {o : Sheets} (S : OpensSheets (readSheet xs) (readSh
           )
 
       module _ (none : n ≡ 0) where
-        trays-on : (next : Said) → next ≡ unlessFault (trayTests r1 r2 a b t held) next
+        trays-on : (next : Said) → next ≡ unlessTrays r1 r2 a b (length t) (length held) next
         trays-on next = fault-passed next _ n tests-are none
 
         pub moved-done : (later : List ℕ) → later ≡ moved (elementsOf (o .one .layout) (o .one .size)) (elementsOf (o .two .layout) (o .two .size)) a (b - a) t
-            → let outcome = movedOf r1 r2 a b t held in (done [] ≡ outcome .says) × (later ≡ outcome .later)
-        unfolding movedOf
+            → let outcome = moveOf r1 r2 a b t held in (done [] ≡ outcome .says) × (later ≡ outcome .later)
+        unfolding moveOf
         moved-done later q = writes held _ (trays-on _ ∙ sheets-on _) (q ∙ ap₂ (λ (L M : Elements). moved L M a (b - a) t) one-is two-is)
 
       -- ---- and m what refuses the indexes of a pair
       module _ (i j m : ℕ) (k : m ≡ firstFault (pairTests (o .one .layout .elements) i (o .two .layout .elements) j)) (there : m ≡ 0) where
-        pub pair-fault : (f : Refusal) → f ≡ callRefusal n 0 → (n ≡ 0 → ⊥) → let outcome = pairMovedOf r1 r2 i j a b t held in (refusalSays f ≡ outcome .says) × (held ≡ outcome .later)
-        unfolding pairMovedOf
+        pub pair-fault : (f : Refusal) → f ≡ callRefusal n 0 → (n ≡ 0 → ⊥) → let outcome = pairMoveOf r1 r2 i j a b t held in (refusalSays f ≡ outcome .says) × (held ≡ outcome .later)
+        unfolding pairMoveOf
         pair-fault f made d = writes-not held _ f (fault-refused _ _ n tests-are f made d ∙ fault-passed _ _ m (indexes-are i j m k) there ∙ sheets-on _)
 
         pub pair-done : (none : n ≡ 0) (later : List ℕ) → later ≡ pairMoved (elementsOf (o .one .layout) (o .one .size)) (elementsOf (o .two .layout) (o .two .size)) a (b - a) t i j held
-            → let outcome = pairMovedOf r1 r2 i j a b t held in (done [] ≡ outcome .says) × (later ≡ outcome .later)
-        unfolding pairMovedOf
+            → let outcome = pairMoveOf r1 r2 i j a b t held in (done [] ≡ outcome .says) × (later ≡ outcome .later)
+        unfolding pairMoveOf
         pair-done none later q =
             writes held _
             (trays-on none _ ∙ fault-passed _ _ m (indexes-are i j m k) there ∙ sheets-on _)
             (q ∙ ap₂ (λ (L M : Elements). pairMoved L M a (b - a) t i j held) one-is two-is)
 
     pub pair-absent : (i j m : ℕ) → m ≡ firstFault (pairTests (o .one .layout .elements) i (o .two .layout .elements) j) → (f : Refusal) → f ≡ callRefusal m 0 → (m ≡ 0 → ⊥)
-        → let outcome = pairMovedOf r1 r2 i j a b t held in (refusalSays f ≡ outcome .says) × (held ≡ outcome .later)
-    unfolding pairMovedOf
+        → let outcome = pairMoveOf r1 r2 i j a b t held in (refusalSays f ≡ outcome .says) × (held ≡ outcome .later)
+    unfolding pairMoveOf
     pair-absent i j m k f made d = writes-not held _ f (fault-refused _ _ m (indexes-are i j m k) f made d ∙ sheets-on _)

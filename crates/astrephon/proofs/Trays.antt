@@ -16,23 +16,23 @@ use Rattle.sheets.specs.declared.Reading.{Reading}
 use Rattle.sheets.specs.Sheet.{readSheet}
 use Rattle.sheets.proofs.Accepted.{accepted-law}
 use Rattle.openings.specs.Offsets.{offsetsOf}
-use Rattle.astrephon.specs.Moves.{layoutOf}
+use Rattle.astrephon.specs.Moves.{elementsRead}
 use Rattle.astrephon.specs.Sequences.{Takes}
 
-layout-map : (r : Reading) → map (owns (r .layout .displacement) (r .size)) (selections 4 (r .layout)) ≡ layoutOf r
+layout-map : (r : Reading) → map (owns (r .layout .displacement) (r .size)) (selections 4 (r .layout)) ≡ elementsRead r
 unfolding offsetsOf selections
 layout-map r = tabulated-map (owns (r .layout .displacement) (r .size)) 0 (r .layout .elements) (λ e. has (treeOf 4 (r .layout) e))
 
-pub layout-length : (r : Reading) → length (layoutOf r) ≡ r .layout .elements
+pub layout-length : (r : Reading) → length (elementsRead r) ≡ r .layout .elements
 layout-length r = length-tabulated 0 (r .layout .elements) (offsetsOf r)
 
 -- past the last element nothing passes
-pub past-none : (xs : List ℕ) (i : ℕ) → readSheet xs .layout .elements ≤ i → (x : ℕ) → element (layoutOf (readSheet xs)) i x ≡ false
-past-none xs i h x = ap (λ (p : ℕ → Bool). p x) (List·getD-eq-default (layoutOf (readSheet xs)) (λ _. false) {n = i} (omega (arith, layout-length (readSheet xs))))
+pub past-none : (xs : List ℕ) (i : ℕ) → readSheet xs .layout .elements ≤ i → (x : ℕ) → element (elementsRead (readSheet xs)) i x ≡ false
+past-none xs i h x = ap (λ (p : ℕ → Bool). p x) (List·getD-eq-default (elementsRead (readSheet xs)) (λ _. false) {n = i} (omega (arith, layout-length (readSheet xs))))
 
 module _ {xs : List ℕ} {a : ℕ} (X : Takes xs a) where
   abbrev L : Elements
-  L = layoutOf (readSheet xs)
+  L = elementsRead (readSheet xs)
 
   -- the elements share every window out that starts in the sheet
   pub shared-out : (n : ℕ) → Partition L a n

@@ -4,7 +4,7 @@ use mathlib.Core.Path.{_≡_, sym, _∙_}
 use mathlib.Core.List.{List}
 use Prim.Native.Nat.{ℕ}
 use Rattle.openings.specs.Said.{Said}
-use Rattle.astrephon.specs.Said.{listedSays, carriedSays, writtenSays}
+use Rattle.astrephon.specs.Says.{listedSays, carriedSays, writtenSays}
 use Rattle.astrephon.specs.declared.Checked.{Checked}
 use Rattle.astrephon.specs.declared.Mapped.{Mapped}
 use Rattle.astrephon.specs.declared.Located.{Located}

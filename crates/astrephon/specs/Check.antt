@@ -7,8 +7,8 @@ use Rattle.openings.specs.Said.{Said, done}
 use Rattle.openings.specs.Refusals.{unlessSheet}
 
 -- the pattern's size, how many elements share it, and the displacement
-unfoldable pub checkedOf : Reading → Said
-checkedOf r = unlessSheet 1 r (done (r .size ∷ r .layout .elements ∷ r .layout .displacement ∷ []))
+unfoldable pub checkOf : Reading → Said
+checkOf r = unlessSheet 1 r (done (r .size ∷ r .layout .elements ∷ r .layout .displacement ∷ []))
 
 abbrev pub checkCall : List ℕ → Said
-checkCall xs = checkedOf (readSheet xs)
+checkCall xs = checkOf (readSheet xs)

@@ -1,4 +1,4 @@
-pub mod Said
+pub mod Says
 pub mod Check
 pub mod Maps
 pub mod Shares

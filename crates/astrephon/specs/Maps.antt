@@ -10,6 +10,7 @@ use Rattle.openings.specs.Said.{Said, done}
 use Rattle.openings.specs.Refusals.{FAR, FOREIGN, unlessFault}
 use Rattle.openings.specs.Offsets.{LIMIT, offsetsOf, rankOf, placeOf, offsetTests, intervalTests, unlessElement}
 
+-- EXACT MAPPING: the rank of an offset of the element
 unfoldable pub exactOf : Reading → (e x : ℕ) → Said
 exactOf r e x =
     unlessElement r e
@@ -17,12 +18,15 @@ exactOf r e x =
     (unlessFault ((FOREIGN when not (offsetsOf r e x)) ∷ [])
     (done (rankOf r e x ∷ []))))
 
+-- NEXT MAPPING: the rank of any offset, which is the subfile offset of the element's next byte
 unfoldable pub nextOf : Reading → (e x : ℕ) → Said
 nextOf r e x = unlessElement r e (unlessFault (offsetTests (r .layout .displacement) x) (done (rankOf r e x ∷ [])))
 
+-- INVERSE MAPPING: the file offset of byte y of the subfile
 unfoldable pub inverseOf : Reading → (e y : ℕ) → Said
 inverseOf r e y = unlessElement r e (unlessFault ((FAR when leb LIMIT (placeOf r e y)) ∷ []) (done (placeOf r e y ∷ [])))
 
+-- THE SPAN of an interval, both ends meant: from the rank of a to the rank of z
 unfoldable pub spanOf : Reading → (e a z : ℕ) → Said
 spanOf r e a z = unlessElement r e (unlessFault (intervalTests (r .layout .displacement) a z) (done (rankOf r e a ∷ rankOf r e z ∷ [])))
 

@@ -1,35 +1,35 @@
 -- THE CALLS between the trays of two sheets: `move_tray` and `move_pair`. Assumes nothing: these are definitions.
-use mathlib.Core.List.{List, [], _++_}
-use Prim.Native.Nat.{ℕ, _-_, max}
+use mathlib.Core.List.{List, []}
+use Prim.Native.Nat.{ℕ, _-_}
 use lib.ListN.{length}
 use Rattle.counting.specs.Gather.{tabulated}
 use Rattle.counting.specs.Elements.{Elements}
 use Rattle.counting.specs.Trays.{moved, pairMoved}
 use Rattle.sheets.specs.declared.Reading.{Reading}
-use Rattle.sheets.specs.Refusals.{Test}
 use Rattle.sheets.specs.Sheet.{readSheet}
 use Rattle.openings.specs.Said.{done, Outcome, writing}
-use Rattle.openings.specs.Refusals.{unlessSheets, unlessFault}
-use Rattle.openings.specs.Offsets.{offsetsOf, windowTests, unlessElements}
-use Rattle.openings.specs.Buffers.{bufferTests}
+use Rattle.openings.specs.Refusals.{unlessSheets}
+use Rattle.openings.specs.Offsets.{offsetsOf, unlessElements}
+use Rattle.openings.specs.Buffers.{unlessTrays}
 
--- THE LAYOUT of a sheet: its elements in order, each the test of its file offsets
-abbrev pub layoutOf : Reading → Elements
-layoutOf r = tabulated 0 (r .layout .elements) (offsetsOf r)
+-- THE ELEMENTS of a sheet in order, each the test of its file offsets
+abbrev pub elementsRead : Reading → Elements
+elementsRead r = tabulated 0 (r .layout .elements) (offsetsOf r)
 
--- the window starts at or after both displacements, and each tray is as long
-abbrev pub trayTests : (r1 r2 : Reading) → (a b : ℕ) → (t held : List ℕ) → List Test
-trayTests r1 r2 a b t held = windowTests (max (r1 .layout .displacement) (r2 .layout .displacement)) a b ++ bufferTests (length t) (b - a) (length held) (b - a)
+-- A MOVE: the second sheet's tray holds the window's bytes that the first one's holds, each in its own order
+unfoldable pub moveOf : (r1 r2 : Reading) → (a b : ℕ) → (t held : List ℕ) → Outcome
+moveOf r1 r2 a b t held =
+    writing (unlessSheets r1 r2 (unlessTrays r1 r2 a b (length t) (length held) (done [])))
+    held (moved (elementsRead r1) (elementsRead r2) a (b - a) t)
 
-unfoldable pub movedOf : (r1 r2 : Reading) → (a b : ℕ) → (t held : List ℕ) → Outcome
-movedOf r1 r2 a b t held = writing (unlessSheets r1 r2 (unlessFault (trayTests r1 r2 a b t held) (done []))) held (moved (layoutOf r1) (layoutOf r2) a (b - a) t)
+-- A PAIR MOVE: only the bytes that element i of the first and element j of the second share are written
+unfoldable pub pairMoveOf : (r1 r2 : Reading) → (i j a b : ℕ) → (t held : List ℕ) → Outcome
+pairMoveOf r1 r2 i j a b t held =
+    writing (unlessElements r1 r2 i j (unlessTrays r1 r2 a b (length t) (length held) (done [])))
+    held (pairMoved (elementsRead r1) (elementsRead r2) a (b - a) t i j held)
 
-unfoldable pub pairMovedOf : (r1 r2 : Reading) → (i j a b : ℕ) → (t held : List ℕ) → Outcome
-pairMovedOf r1 r2 i j a b t held =
-    writing (unlessElements r1 r2 i j (unlessFault (trayTests r1 r2 a b t held) (done []))) held (pairMoved (layoutOf r1) (layoutOf r2) a (b - a) t i j held)
+abbrev pub moveCall : (xs ys : List ℕ) → (a b : ℕ) → (t held : List ℕ) → Outcome
+moveCall xs ys a b t held = moveOf (readSheet xs) (readSheet ys) a b t held
 
-abbrev pub movedCall : (xs ys : List ℕ) → (a b : ℕ) → (t held : List ℕ) → Outcome
-movedCall xs ys a b t held = movedOf (readSheet xs) (readSheet ys) a b t held
-
-abbrev pub pairMovedCall : (xs ys : List ℕ) → (i j a b : ℕ) → (t held : List ℕ) → Outcome
-pairMovedCall xs ys i j a b t held = pairMovedOf (readSheet xs) (readSheet ys) i j a b t held
+abbrev pub pairMoveCall : (xs ys : List ℕ) → (i j a b : ℕ) → (t held : List ℕ) → Outcome
+pairMoveCall xs ys i j a b t held = pairMoveOf (readSheet xs) (readSheet ys) i j a b t held

@@ -7,12 +7,12 @@ use Rattle.sheets.specs.Sheet.{readSheet}
 use Rattle.openings.specs.Offsets.{LIMIT}
 use Rattle.openings.specs.Buffers.{packedLength}
 
--- a sheet, and a window that starts in it
+-- an accepted sheet, and a window that starts at or after its displacement
 pub record Takes (xs : List ℕ) (a : ℕ) : Type 0 where
   pub fine : readSheet xs .number ≡ 0
   pub after : readSheet xs .layout .displacement ≤ a
 
--- the window itself
+-- the window ends no earlier than it starts, and by 2^40
 pub record Forward (a b : ℕ) : Type 0 where
   pub forward : a ≤ b
   pub near : b ≤ LIMIT
@@ -21,6 +21,7 @@ pub record Forward (a b : ℕ) : Type 0 where
 abbrev pub Stop : Type 0
 Stop = List ℕ × List ℕ
 
+-- all sheets of a chain take the window, and each buffer is as long
 unfoldable pub AllTake : List Stop → (a b : ℕ) → Type 0
 AllTake [] a b = Unit {0}
 AllTake (s ∷ rest) a b = Takes (s .0) a × (length (s .1) ≡ b - a) × AllTake rest a b

@@ -22,11 +22,11 @@ unfoldable pub unlessRoom : (n : ℕ) → (held : List ℕ) → (next : Said) �
 unlessRoom n held next = cond (leb n (capacity held)) next (refused ROOM 0 n NO-FLAG)
 
 -- a list that holds them all has their slots, four a run, and behind them its old ones
-unfoldable pub sharedOf : (r1 r2 : Reading) → (i j a b : ℕ) → (held : List ℕ) → Outcome
-sharedOf r1 r2 i j a b held =
+unfoldable pub sharedRunsOf : (r1 r2 : Reading) → (i j a b : ℕ) → (held : List ℕ) → Outcome
+sharedRunsOf r1 r2 i j a b held =
     let runs = runsOfPair r1 r2 i j a b in
     writing (unlessWindows r1 r2 i j a b (unlessRoom (length runs) held (done (length runs ∷ []))))
     held (listOf (offsetsOf r1 i) (offsetsOf r2 j) runs ++ drop (4 * length runs) held)
 
-abbrev pub sharedCall : (xs ys : List ℕ) → (i j a b : ℕ) → (held : List ℕ) → Outcome
-sharedCall xs ys i j a b held = sharedOf (readSheet xs) (readSheet ys) i j a b held
+abbrev pub sharedRunsCall : (xs ys : List ℕ) → (i j a b : ℕ) → (held : List ℕ) → Outcome
+sharedRunsCall xs ys i j a b held = sharedRunsOf (readSheet xs) (readSheet ys) i j a b held

@@ -11,8 +11,8 @@ use Rattle.openings.specs.Said.{done, Outcome, writing}
 use Rattle.openings.specs.Refusals.{BUFFER, unlessFault}
 
 -- a text at the front of what a buffer held; later bytes stay
-unfoldable pub writtenOf : (text held : List ℕ) → Outcome
-writtenOf text held = writing (unlessFault ((BUFFER when ltb (length held) (length text)) ∷ []) (done (length text ∷ []))) held (text ++ drop (length text) held)
+unfoldable pub textOutcome : (text held : List ℕ) → Outcome
+textOutcome text held = writing (unlessFault ((BUFFER when ltb (length held) (length text)) ∷ []) (done (length text ∷ []))) held (text ++ drop (length text) held)
 
-abbrev pub writtenCall : List ℕ → (held : List ℕ) → Outcome
-writtenCall xs held = writtenOf (listing (readSheet xs)) held
+abbrev pub listingCall : List ℕ → (held : List ℕ) → Outcome
+listingCall xs held = textOutcome (listing (readSheet xs)) held

@@ -1,7 +1,7 @@
 // Carrying one element's bytes of a window between a file buffer and a packed one.
 ghost use mathlib.Core.Path.{_≡_};
-ghost use Rattle.astrephon.specs.Said.{measuredSays, carriedSays};
-ghost use Rattle.astrephon.specs.Carries.{measuredCall, gatheredCall, scatteredCall};
+ghost use Rattle.astrephon.specs.Says.{measuredSays, carriedSays};
+ghost use Rattle.astrephon.specs.Carries.{packedLengthCall, gatherCall, scatterCall};
 use crate::Carried;
 use crate::FileOffset;
 use crate::Measured;
@@ -9,7 +9,7 @@ use maps::Window;
 
 // How many bytes of the window from a up to but not including b are the element's: the length of the packed buffer that `gather` and `scatter` ask for.
 pub fn packed_len(sheet: &[u8], element: u64, a: FileOffset, b: FileOffset) -> Measured
-    ensures { λ r. ⌜ measuredSays r ≡ measuredCall (now (sheet .entry)) element (a .0) (b .0) ⌝ }
+    ensures { λ r. ⌜ measuredSays r ≡ packedLengthCall (now (sheet .entry)) element (a .0) (b .0) ⌝ }
 {
     let mut numbers = [0u32; 1536];
     let opening = openings::open_window(sheet, element, a, b, &mut numbers);
@@ -30,7 +30,7 @@ pub fn gather(
     file: &[u8],
     packed: &mut [u8],
 ) -> Carried
-    ensures { λ r. let outcome = gatheredCall (now (sheet .entry)) element (a .0) (b .0) (now (file .entry)) (now (packed .entry)) in
+    ensures { λ r. let outcome = gatherCall (now (sheet .entry)) element (a .0) (b .0) (now (file .entry)) (now (packed .entry)) in
         ⌜ carriedSays r ≡ outcome .says ⌝ ∗ ⌜ now (packed .exit) ≡ outcome .later ⌝ }
 {
     let mut numbers = [0u32; 1536];
@@ -61,7 +61,7 @@ pub fn scatter(
     packed: &[u8],
     file: &mut [u8],
 ) -> Carried
-    ensures { λ r. let outcome = scatteredCall (now (sheet .entry)) element (a .0) (b .0) (now (packed .entry)) (now (file .entry)) in
+    ensures { λ r. let outcome = scatterCall (now (sheet .entry)) element (a .0) (b .0) (now (packed .entry)) (now (file .entry)) in
         ⌜ carriedSays r ≡ outcome .says ⌝ ∗ ⌜ now (file .exit) ≡ outcome .later ⌝ }
 {
     let mut numbers = [0u32; 1536];

@@ -1,6 +1,6 @@
 // Checking one sheet.
 ghost use mathlib.Core.Path.{_≡_};
-ghost use Rattle.astrephon.specs.Said.{checkedSays};
+ghost use Rattle.astrephon.specs.Says.{checkedSays};
 ghost use Rattle.astrephon.specs.Check.{checkCall};
 use crate::Checked;
 use crate::Facts;

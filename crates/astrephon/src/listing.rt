@@ -1,12 +1,12 @@
 // Listing a sheet, for people to read.
 ghost use mathlib.Core.Path.{_≡_};
-ghost use Rattle.astrephon.specs.Said.{writtenSays};
-ghost use Rattle.astrephon.specs.Texts.{writtenCall};
+ghost use Rattle.astrephon.specs.Says.{writtenSays};
+ghost use Rattle.astrephon.specs.Texts.{listingCall};
 use crate::Written;
 
 // Writes the listing of a sheet to the front of `text`: its layout's lines, or the line of its refusal. Later bytes of `text` stay.
 pub fn list_sheet(sheet: &[u8], text: &mut [u8]) -> Written
-    ensures { λ r. let outcome = writtenCall (now (sheet .entry)) (now (text .entry)) in
+    ensures { λ r. let outcome = listingCall (now (sheet .entry)) (now (text .entry)) in
         ⌜ writtenSays r ≡ outcome .says ⌝ ∗ ⌜ now (text .exit) ≡ outcome .later ⌝ }
 {
     let mut whole = [0u8; crate::LONGEST_LISTING];

@@ -1,6 +1,6 @@
 // Mapping offsets between the file and the subfile of one element.
 ghost use mathlib.Core.Path.{_≡_};
-ghost use Rattle.astrephon.specs.Said.{mappedSays, locatedSays, spannedSays};
+ghost use Rattle.astrephon.specs.Says.{mappedSays, locatedSays, spannedSays};
 ghost use Rattle.astrephon.specs.Maps.{exactCall, nextCall, inverseCall, spanCall};
 use crate::FileOffset;
 use crate::Located;

@@ -1,7 +1,7 @@
 // Moving bytes from a tray of one sheet's layout to a tray of another's.
 ghost use mathlib.Core.Path.{_≡_};
-ghost use Rattle.astrephon.specs.Said.{carriedSays};
-ghost use Rattle.astrephon.specs.Moves.{movedCall, pairMovedCall};
+ghost use Rattle.astrephon.specs.Says.{carriedSays};
+ghost use Rattle.astrephon.specs.Moves.{moveCall, pairMoveCall};
 use crate::Carried;
 use crate::FileOffset;
 use maps::Window;
@@ -16,7 +16,7 @@ pub fn move_tray(
     tray1: &[u8],
     tray2: &mut [u8],
 ) -> Carried
-    ensures { λ r. let outcome = movedCall (now (sheet1 .entry)) (now (sheet2 .entry)) (a .0) (b .0) (now (tray1 .entry)) (now (tray2 .entry)) in
+    ensures { λ r. let outcome = moveCall (now (sheet1 .entry)) (now (sheet2 .entry)) (a .0) (b .0) (now (tray1 .entry)) (now (tray2 .entry)) in
         ⌜ carriedSays r ≡ outcome .says ⌝ ∗ ⌜ now (tray2 .exit) ≡ outcome .later ⌝ }
 {
     let both = openings::open_sheets(sheet1, sheet2);
@@ -47,7 +47,7 @@ pub fn move_pair(
     tray1: &[u8],
     tray2: &mut [u8],
 ) -> Carried
-    ensures { λ r. let outcome = pairMovedCall (now (sheet1 .entry)) (now (sheet2 .entry)) i j (a .0) (b .0) (now (tray1 .entry)) (now (tray2 .entry)) in
+    ensures { λ r. let outcome = pairMoveCall (now (sheet1 .entry)) (now (sheet2 .entry)) i j (a .0) (b .0) (now (tray1 .entry)) (now (tray2 .entry)) in
         ⌜ carriedSays r ≡ outcome .says ⌝ ∗ ⌜ now (tray2 .exit) ≡ outcome .later ⌝ }
 {
     let both = openings::open_sheets(sheet1, sheet2);

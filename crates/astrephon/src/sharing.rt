@@ -1,7 +1,7 @@
 // What two elements share: the runs of file offsets that are in both.
 ghost use mathlib.Core.Path.{_≡_};
-ghost use Rattle.astrephon.specs.Said.{listedSays};
-ghost use Rattle.astrephon.specs.Shares.{sharedCall};
+ghost use Rattle.astrephon.specs.Says.{listedSays};
+ghost use Rattle.astrephon.specs.Shares.{sharedRunsCall};
 use crate::FileOffset;
 use crate::Listed;
 use maps::Window;
@@ -17,7 +17,7 @@ pub fn shared_runs(
     b: FileOffset,
     list: &mut [u64],
 ) -> Listed
-    ensures { λ r. let outcome = sharedCall (now (sheet1 .entry)) (now (sheet2 .entry)) i j (a .0) (b .0) (now (list .entry)) in
+    ensures { λ r. let outcome = sharedRunsCall (now (sheet1 .entry)) (now (sheet2 .entry)) i j (a .0) (b .0) (now (list .entry)) in
         ⌜ listedSays r ≡ outcome .says ⌝ ∗ ⌜ now (list .exit) ≡ outcome .later ⌝ }
 {
     let mut numbers1 = [0u32; 1536];

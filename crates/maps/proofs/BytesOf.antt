@@ -1,5 +1,5 @@
--- The bytes of a selection: mapping and inverse undo each other, one file offset only is byte y, and next mapping finds the next byte. Assumes nothing.
-use mathlib.Core.Path.{_≡_, refl}
+-- The bytes of a selection: one file offset only is byte y, where byte y is found and where it is not, and which byte next mapping finds. Assumes nothing.
+use mathlib.Core.Path.{_≡_}
 use mathlib.Core.Bool.{Bool, true, false}
 use Prim.Native.Nat.{ℕ, _+_, _-_, _≤_, _<_}
 use native.Mathlib.Omega.{arith}
@@ -10,20 +10,16 @@ use Rattle.maps.specs.Selected.{Byte}
 
 module _ (p : ℕ → Bool) where
   -- ---- one file offset only is byte y
-  pub inverse-unique : (y a b : ℕ) → Byte p y a → Byte p y b → a ≡ b
-  inverse-unique y a b A B = rank-injective p a b (A .0) (B .0) (omega (arith, A .1, B .1))
+  pub byte-unique : (y a b : ℕ) → Byte p y a → Byte p y b → a ≡ b
+  byte-unique y a b A B = rank-injective p a b (A .0) (B .0) (omega (arith, A .1, B .1))
 
-  -- EXACT THEN INVERSE: the byte whose number is the rank of a selected x is x. (Inverse then exact is what `Byte` says.)
-  pub exact-inverse : (x r : ℕ) → p x ≡ true → Byte p (countBelow p x) r → r ≡ x
-  exact-inverse x r e R = inverse-unique (countBelow p x) r x R (e, refl)
-
-  -- ---- a byte is the number of its rank below whatever lies past it, and below anything else there is none
+  -- ---- byte y is found below whatever lies past it; below anything else there is none, nor a later one
   module _ (y r : ℕ) (R : Byte p y r) where
     pub inverse-near : (m : ℕ) → r < m → nth p m y ≡ r
     inverse-near m h = nth-is p m r y h (R .0) (R .1)
 
-    pub inverse-far : (m : ℕ) → m ≤ r → nth p m y ≡ m
-    inverse-far m h = nth-none p m y (omega (arith, count-mono p m r h, R .1))
+    pub inverse-far : (m : ℕ) → m ≤ r → (z : ℕ) → y ≤ z → nth p m z ≡ m
+    inverse-far m h z l = nth-none p m z (omega (arith, count-mono p m r h, R .1))
 
   -- ---- NEXT MAPPING: the rank of x is the number of the first byte from x on
   pub next-is : (x z : ℕ) → x ≤ z → p z ≡ true → ((w : ℕ) → x ≤ w → w < z → p w ≡ false) → Byte p (countBelow p x) z

@@ -1,5 +1,5 @@
 -- What the code asks and answers: a file offset is some whole periods and a place in one, and so is a byte of the subfile. Assumes nothing.
-use mathlib.Core.Path.{_≡_, sym, ap, _∙_}
+use mathlib.Core.Path.{_≡_, refl, sym, ap, _∙_}
 use mathlib.Core.Bool.{Bool, false}
 use mathlib.Core.List.{List}
 use mathlib.Core.Logic.{⊎-elim}
@@ -48,6 +48,10 @@ module _ {s : Selection} {row : List ℕ} (ok : Selection·ok s row) where
       -- the rank is at most x
       pub rank-small : (x - s .from) / s .period * s .size + part ≤ x
       rank-small = omega (arith, rank-by-periods, count-le (belongs s row) x)
+
+    -- .. and so is what whole periods count
+    pub whole-small : (x - s .from) / s .period * s .size ≤ x
+    whole-small = omega (arith, rank-small (countBelow (has (familiesOf s row)) ((x - s .from) % s .period)) refl)
 
   -- ---- byte y of the selection
   module _ (y : ℕ) where

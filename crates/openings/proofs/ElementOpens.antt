@@ -36,11 +36,11 @@ module _ (xs : List ℕ) (r : Reading) (read : r ≡ readSheet xs) (e : ℕ) whe
   pub sheet-closed : (f : Refusal) → f ≡ sheetRefusal 1 r → (r .number ≡ 0 → ⊥) → (o : Opening) → o .refusal ≡ f → (row : List ℕ) → Element o row
   sheet-closed f q d o is row =
       let refuses : f .number ≡ 0 → ⊥ = λ z. d (ap (λ (g : Refusal). g .number) (sym q) ∙ z) in
-      rw (← read) (closed-opens f (still (sheet-verdict 1 r f q) (unlessFault (elementTest r e ∷ [])) refuses) refuses o is)
+      rw (← read) (closed-opens f (still (sheet-verdict 1 r f q) (unlessFault (elementTest (r .layout .elements) e ∷ [])) refuses) refuses o is)
 
   module _ (fine : r .number ≡ 0) where
-    index : (n : ℕ) → n ≡ firstFault (elementTest r e ∷ []) → (f : Refusal) → f ≡ callRefusal n 0 → Verdict (unlessElement r e) f
-    index n k f q = after sheet-read (unlessFault (elementTest r e ∷ [])) fine (fault-verdict (elementTest r e ∷ []) n k f q)
+    index : (n : ℕ) → n ≡ firstFault (elementTest (r .layout .elements) e ∷ []) → (f : Refusal) → f ≡ callRefusal n 0 → Verdict (unlessElement r e) f
+    index n k f q = after sheet-read (unlessFault (elementTest (r .layout .elements) e ∷ [])) fine (fault-verdict (elementTest (r .layout .elements) e ∷ []) n k f q)
 
     pub element-closed : (f : Refusal) → f ≡ callRefusal ELEMENT 0 → r .layout .elements ≤ e → (o : Opening) → o .refusal ≡ f → (row : List ℕ) → Element o row
     element-closed f q h o is row =

@@ -9,7 +9,7 @@ use Rattle.sheets.specs.Refusals.{Test, _when_, firstFault}
 use Rattle.sheets.proofs.Faults.{no-fault}
 use Rattle.openings.specs.Refusals.{ELEMENT, BEFORE, FAR, WINDOW, BUFFER}
 use Rattle.openings.specs.Offsets.{LIMIT, pairTests, offsetTests, rangeTests, windowTests}
-use Rattle.openings.specs.Buffers.{bufferTests}
+use Rattle.openings.specs.Buffers.{bufferTests, trayTests}
 
 module _ (from x : ℕ) where
   pub offset-before : x < from → BEFORE ≡ firstFault (offsetTests from x)
@@ -51,20 +51,20 @@ module _ (most from a b : ℕ) where
       (ltb-false b a (back .0), ltb-false a from (before .0), ltb-false most b (far .0))
 
 -- ---- the lengths of two buffers
-module _ (file bytes packed count : ℕ) where
-  pub buffer-file : (file ≡ bytes → ⊥) → BUFFER ≡ firstFault (bufferTests file bytes packed count)
+module _ (one due1 two due2 : ℕ) where
+  pub buffer-first : (one ≡ due1 → ⊥) → BUFFER ≡ firstFault (bufferTests one due1 two due2)
   unfolding firstFault
-  buffer-file d = rw (ne-eqb _ _ d) refl
+  buffer-first d = rw (ne-eqb _ _ d) refl
 
-  pub buffer-packed : file ≡ bytes → (packed ≡ count → ⊥) → BUFFER ≡ firstFault (bufferTests file bytes packed count)
+  pub buffer-second : one ≡ due1 → (two ≡ due2 → ⊥) → BUFFER ≡ firstFault (bufferTests one due1 two due2)
   unfolding firstFault
-  buffer-packed e d = rw (eq-eqb _ _ e, ne-eqb _ _ d) refl
+  buffer-second e d = rw (eq-eqb _ _ e, ne-eqb _ _ d) refl
 
-  pub buffer-fine : file ≡ bytes → packed ≡ count → 0 ≡ firstFault (bufferTests file bytes packed count)
+  pub buffer-fine : one ≡ due1 → two ≡ due2 → 0 ≡ firstFault (bufferTests one due1 two due2)
   unfolding firstFault
   buffer-fine e f = rw (eq-eqb _ _ e, eq-eqb _ _ f) refl
 
-  pub buffer-known : (n : ℕ) → n ≡ firstFault (bufferTests file bytes packed count) → n ≡ 0 → (file ≡ bytes) × (packed ≡ count)
+  pub buffer-known : (n : ℕ) → n ≡ firstFault (bufferTests one due1 two due2) → n ≡ 0 → (one ≡ due1) × (two ≡ due2)
   buffer-known n e z =
       let first = no-fault BUFFER _ _ (omega arith) (sym e ∙ z) in
       let second = no-fault BUFFER _ _ (omega arith) (first .1) in
@@ -99,19 +99,16 @@ fault-front ((m when true) ∷ ts) us n e d = e
 fault-front ((m when false) ∷ ts) us n e d = fault-front ts us n e d
 
 module _ (from a b one two n : ℕ) where
-  abbrev tests : List Test
-  tests = windowTests from a b ++ bufferTests one (b - a) two (b - a)
-
-  pub trays-window : n ≡ firstFault (windowTests from a b) → (n ≡ 0 → ⊥) → n ≡ firstFault tests
+  pub trays-window : n ≡ firstFault (windowTests from a b) → (n ≡ 0 → ⊥) → n ≡ firstFault (trayTests from a b one two)
   trays-window e d = fault-front (windowTests from a b) _ n e d
 
-  pub trays-buffers : (m : ℕ) → m ≡ firstFault (windowTests from a b) → m ≡ 0 → n ≡ firstFault (bufferTests one (b - a) two (b - a)) → n ≡ firstFault tests
+  pub trays-buffers : (m : ℕ) → m ≡ firstFault (windowTests from a b) → m ≡ 0 → n ≡ firstFault (bufferTests one (b - a) two (b - a)) → n ≡ firstFault (trayTests from a b one two)
   unfolding firstFault
   trays-buffers m e z q =
       let K = range-known LIMIT from a b m e z in
       rw (le-ltb _ _ (K .0), le-ltb _ _ (K .1), le-ltb _ _ (K .2)) q
 
-pub trays-known : (from a b one two n : ℕ) → n ≡ firstFault (tests from a b one two n) → n ≡ 0 → (a ≤ b) × (from ≤ a) × (b ≤ LIMIT) × (one ≡ b - a) × (two ≡ b - a)
+pub trays-known : (from a b one two n : ℕ) → n ≡ firstFault (trayTests from a b one two) → n ≡ 0 → (a ≤ b) × (from ≤ a) × (b ≤ LIMIT) × (one ≡ b - a) × (two ≡ b - a)
 trays-known from a b one two n e z =
     let back = no-fault WINDOW _ _ (omega arith) (sym e ∙ z) in
     let before = no-fault BEFORE _ _ (omega arith) (back .1) in

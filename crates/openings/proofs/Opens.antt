@@ -32,12 +32,12 @@ layout-rules xs r read fine = rw read (accepted-law xs (ap (λ (s : Reading). s 
 -- an element that is there: every call goes on; and a call that did its work had one
 module _ (r : Reading) (e : ℕ) where
   pub element-on : (next : Said) → r .number ≡ 0 → e < r .layout .elements → next ≡ unlessElement r e next
-  element-on next fine h = fault-passed next (elementTest r e ∷ []) 0 (row-absent ELEMENT _ (lt-leb _ _ h)) refl ∙ sheet-passed _ 1 r fine
+  element-on next fine h = fault-passed next (elementTest (r .layout .elements) e ∷ []) 0 (row-absent ELEMENT _ (lt-leb _ _ h)) refl ∙ sheet-passed _ 1 r fine
 
   pub element-through : {next : Said} {values : List ℕ} → unlessElement r e next ≡ done values → (r .number ≡ 0) × (e < r .layout .elements) × (next ≡ done values)
   element-through q =
       let sheet = sheet-through 1 r q in
-      let element = fault-through (elementTest r e ∷ []) (sheet .1) in
+      let element = fault-through (elementTest (r .layout .elements) e ∷ []) (sheet .1) in
       (sheet .0, omega (arith, leb-false (r .layout .elements) e (no-fault ELEMENT _ _ (omega arith) (element .0) .0)), element .1)
 
 -- ---- WHAT A CALL KNOWS of an element that was opened

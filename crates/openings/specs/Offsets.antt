@@ -28,17 +28,17 @@ rankOf r e x = countBelow (offsetsOf r e) x
 abbrev pub placeOf : Reading → (e y : ℕ) → ℕ
 placeOf r e y = nth (offsetsOf r e) LIMIT y
 
--- ---- what is checked: an element's index
-abbrev pub elementTest : Reading → (e : ℕ) → Test
-elementTest r e = ELEMENT when leb (r .layout .elements) e
+-- ---- what is checked: the index of an element, where a sheet has n of them
+abbrev pub elementTest : (n e : ℕ) → Test
+elementTest n e = ELEMENT when leb n e
 
--- .. and those of a pair, where the sheets have m and n elements
+-- .. and the indexes of a pair, where the sheets have m and n
 abbrev pub pairTests : (m i n j : ℕ) → List Test
-pairTests m i n j = (ELEMENT when leb m i) ∷ (ELEMENT when leb n j) ∷ []
+pairTests m i n j = elementTest m i ∷ elementTest n j ∷ []
 
 -- in a call on one element, after its sheet; and in one on an element of each of two sheets, after both
 abbrev pub unlessElement : Reading → (e : ℕ) → (next : Said) → Said
-unlessElement r e next = unlessSheet 1 r (unlessFault (elementTest r e ∷ []) next)
+unlessElement r e next = unlessSheet 1 r (unlessFault (elementTest (r .layout .elements) e ∷ []) next)
 
 abbrev pub unlessElements : (r1 r2 : Reading) → (i j : ℕ) → (next : Said) → Said
 unlessElements r1 r2 i j next = unlessSheets r1 r2 (unlessFault (pairTests (r1 .layout .elements) i (r2 .layout .elements) j) next)
@@ -47,7 +47,7 @@ unlessElements r1 r2 i j next = unlessSheets r1 r2 (unlessFault (pairTests (r1 .
 abbrev pub offsetTests : (d x : ℕ) → List Test
 offsetTests d x = (BEFORE when ltb x d) ∷ (FAR when leb LIMIT x) ∷ []
 
--- from a to b, where b may be `most`: an interval, both ends of which are offsets, and a window, to which its end does not belong
+-- from a to b, where b is at most `most`: the last offset for an interval, whose ends are both offsets; the limit for a window, to which b does not belong
 abbrev pub rangeTests : (most d a b : ℕ) → List Test
 rangeTests most d a b = (WINDOW when ltb b a) ∷ (BEFORE when ltb a d) ∷ (FAR when ltb most b) ∷ []
 
@@ -57,9 +57,13 @@ intervalTests d a z = rangeTests (LIMIT - 1) d a z
 abbrev pub windowTests : (d a b : ℕ) → List Test
 windowTests d a b = rangeTests LIMIT d a b
 
--- an element and a window; and an element of each of two sheets and a window, which starts at or after both displacements
+-- where both of two sheets have started: the larger displacement
+abbrev pub bothFrom : (r1 r2 : Reading) → ℕ
+bothFrom r1 r2 = max (r1 .layout .displacement) (r2 .layout .displacement)
+
+-- an element and a window; and an element of each of two sheets and a window of both
 abbrev pub unlessWindow : Reading → (e a b : ℕ) → (next : Said) → Said
 unlessWindow r e a b next = unlessElement r e (unlessFault (windowTests (r .layout .displacement) a b) next)
 
 abbrev pub unlessWindows : (r1 r2 : Reading) → (i j a b : ℕ) → (next : Said) → Said
-unlessWindows r1 r2 i j a b next = unlessElements r1 r2 i j (unlessFault (windowTests (max (r1 .layout .displacement) (r2 .layout .displacement)) a b) next)
+unlessWindows r1 r2 i j a b next = unlessElements r1 r2 i j (unlessFault (windowTests (bothFrom r1 r2) a b) next)

@@ -1,12 +1,10 @@
 -- The refusals of the calls: a sheet's, and 01's numbers from 12 on; and how a call goes on where there is none. Assumes nothing: these are definitions.
-use mathlib.Core.Bool.{cond}
 use mathlib.Core.List.{List}
 use Prim.Native.Nat.{ℕ}
-use lib.Dec.{eqb}
 use Rattle.sheets.specs.declared.Reading.{Reading}
 use Rattle.sheets.specs.Refusals.{Test, firstFault, NO-FLAG}
 use Rattle.openings.specs.declared.Refusal.{Refusal}
-use Rattle.openings.specs.Said.{Said, refused}
+use Rattle.openings.specs.Said.{Said, goesOn}
 
 abbrev pub ELEMENT : ℕ
 ELEMENT = 12
@@ -38,7 +36,7 @@ callRefusal number place = record { number = number; sheet = 0; place = place; f
 
 -- what a call says: `next`, unless the k-th sheet is refused
 unfoldable pub unlessSheet : (k : ℕ) → Reading → (next : Said) → Said
-unlessSheet k r next = cond (eqb (r .number) 0) next (refused (r .number) k (r .place) (r .flag))
+unlessSheet k r next = goesOn (sheetRefusal k r) next
 
 -- .. unless one of two is, the first before the second
 abbrev pub unlessSheets : (r1 r2 : Reading) → (next : Said) → Said
@@ -46,4 +44,4 @@ unlessSheets r1 r2 next = unlessSheet 1 r1 (unlessSheet 2 r2 next)
 
 -- `next`, unless there is a fault: the first is refused
 unfoldable pub unlessFault : List Test → (next : Said) → Said
-unlessFault tests next = cond (eqb (firstFault tests) 0) next (refused (firstFault tests) 0 0 NO-FLAG)
+unlessFault tests next = goesOn (callRefusal (firstFault tests) 0) next

@@ -18,7 +18,9 @@ use families::Layout;
 use maps::Selection;
 
 // What stands where nothing is selected.
-pub fn no_selection() -> Selection {
+pub fn no_selection() -> Selection
+    ensures { λ r. ⌜ r ≡ record { from = 0; period = 0; levels = 0; first = 0; tops = 0; size = 0 } ⌝ }
+{
     Selection {
         from: 0,
         period: 0,
@@ -82,9 +84,9 @@ pub fn open_window(
         ⌜ Opens (unlessWindow reading element (a .0) (b .0)) reading element r (now (numbers .exit)) ⌝ }
 {
     let opening = open_element(sheet, element, numbers);
-    let refused = opening.refusal;
+    let refusal = opening.refusal;
     let selection = opening.selection;
-    if refused.number != 0 {
+    if refusal.number != 0 {
         return opening;
     }
     let fault = ranges::range_fault(crate::LIMIT, selection.from, a, b);
@@ -119,14 +121,14 @@ pub fn open_buffers(
         ⌜ Opens (unlessBuffers reading element (a .0) (b .0) file packed) reading element r (now (numbers .exit)) ⌝ }
 {
     let opening = open_window(sheet, element, a, b, numbers);
-    let refused = opening.refusal;
+    let refusal = opening.refusal;
     let selection = opening.selection;
-    if refused.number != 0 {
+    if refusal.number != 0 {
         return opening;
     }
     let bytes = b.0 - a.0;
-    let count = count(numbers, selection, a, b);
-    let misfit = ranges::buffer_fault(file as u64, bytes, packed as u64, count);
+    let selected = count(numbers, selection, a, b);
+    let misfit = ranges::buffer_fault(file as u64, bytes, packed as u64, selected);
     Opening {
         refusal: refusals::call_refusal(misfit, 0),
         selection,

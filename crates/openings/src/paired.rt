@@ -53,9 +53,9 @@ pub fn open_pair(
         ⌜ OpensPair one two i j (a .0) (b .0) r (now (numbers1 .exit)) (now (numbers2 .exit)) ⌝ }
 {
     let both = open_sheets(sheet1, sheet2);
-    let refused = both.refusal;
-    if refused.number != 0 {
-        return closed(refused);
+    let refusal = both.refusal;
+    if refusal.number != 0 {
+        return closed(refusal);
     }
     let one = both.one.layout;
     let two = both.two.layout;

@@ -1,10 +1,9 @@
 // What is checked of indexes, offsets and lengths: the number that refuses them, or 0.
 ghost use mathlib.Core.Path.{_≡_};
-ghost use mathlib.Core.List.{_++_};
-ghost use Prim.Native.Nat.{_-_, max};
+ghost use Prim.Native.Nat.{max};
 ghost use Rattle.sheets.specs.Refusals.{firstFault};
-ghost use Rattle.openings.specs.Offsets.{pairTests, offsetTests, rangeTests, windowTests};
-ghost use Rattle.openings.specs.Buffers.{bufferTests};
+ghost use Rattle.openings.specs.Offsets.{pairTests, offsetTests, rangeTests};
+ghost use Rattle.openings.specs.Buffers.{bufferTests, trayTests};
 use families::FileOffset;
 
 // Of the indexes of a pair, where the sheets have m and n elements.
@@ -37,23 +36,25 @@ pub fn offset_fault(from: u32, x: FileOffset) -> u8
 pub fn range_fault(most: u64, from: u32, a: FileOffset, b: FileOffset) -> u8
     ensures { λ r. ⌜ r ≡ firstFault (rangeTests most from (a .0) (b .0)) ⌝ }
 {
-    if b.0 < a.0 {
+    let start = a.0;
+    let end = b.0;
+    if end < start {
         return crate::WINDOW;
     }
-    if a.0 < from as u64 {
+    if start < from as u64 {
         return crate::BEFORE;
     }
-    if most < b.0 { crate::FAR } else { 0 }
+    if most < end { crate::FAR } else { 0 }
 }
 
-// Of the lengths of a file buffer and a packed one, where the window has `bytes` bytes, `count` of them the element's.
-pub fn buffer_fault(file: u64, bytes: u64, packed: u64, count: u64) -> u8
-    ensures { λ r. ⌜ r ≡ firstFault (bufferTests file bytes packed count) ⌝ }
+// Of the lengths of two buffers, each with the one that is due.
+pub fn buffer_fault(one: u64, due1: u64, two: u64, due2: u64) -> u8
+    ensures { λ r. ⌜ r ≡ firstFault (bufferTests one due1 two due2) ⌝ }
 {
-    if file != bytes {
+    if one != due1 {
         return crate::BUFFER;
     }
-    if packed != count {
+    if two != due2 {
         return crate::BUFFER;
     }
     0
@@ -61,7 +62,7 @@ pub fn buffer_fault(file: u64, bytes: u64, packed: u64, count: u64) -> u8
 
 // Of a window and the lengths of two trays of it.
 pub fn trays_fault(from: u32, a: FileOffset, b: FileOffset, one: u64, two: u64) -> u8
-    ensures { λ r. ⌜ r ≡ firstFault (windowTests from (a .0) (b .0) ++ bufferTests one (b .0 - a .0) two (b .0 - a .0)) ⌝ }
+    ensures { λ r. ⌜ r ≡ firstFault (trayTests from (a .0) (b .0) one two) ⌝ }
 {
     let fault = range_fault(crate::LIMIT, from, a, b);
     if fault != 0 {

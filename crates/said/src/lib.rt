@@ -3,7 +3,7 @@ ghost use mathlib.Core.Path.{_≡_};
 ghost use mathlib.Core.List.{[], _∷_};
 ghost use Rattle.openings.specs.Said.{refusalSays};
 ghost use Rattle.openings.specs.Said.{done as Said·done};
-ghost use Rattle.astrephon.specs.Said.{checkedSays, mappedSays, locatedSays, spannedSays, listedSays, measuredSays, writtenSays, carriedSays};
+ghost use Rattle.astrephon.specs.Says.{checkedSays, mappedSays, locatedSays, spannedSays, listedSays, measuredSays, writtenSays, carriedSays};
 ghost use Rattle.said.specs.Answers.{answerOf};
 use astrephon::Carried;
 use astrephon::Checked;

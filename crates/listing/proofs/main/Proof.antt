@@ -2,7 +2,7 @@
 use mathlib.Core.Path.{sym, ap, _∙_}
 use lib.Seq.{length-take-le}
 use borrow.Author.Needs.{needs}
-use Rattle.astrephon.specs.Said.{writtenSays}
+use Rattle.astrephon.specs.Says.{writtenSays}
 use Rattle.astrephon.proofs.Texts.{written-fits}
 use Rattle.listing.proofs.main.Statement.{statement}
 use Rattle.listing.proofs.main.Tie as tie

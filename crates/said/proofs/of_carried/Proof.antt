@@ -1,5 +1,5 @@
 -- `of_carried` meets its contract. Assumes nothing.
-use Rattle.astrephon.specs.Said.{carriedSays}
+use Rattle.astrephon.specs.Says.{carriedSays}
 use Rattle.said.proofs.Telling.{telling}
 use borrow.Author.Needs.{needs}
 use Rattle.said.proofs.of_carried.Statement.{statement}

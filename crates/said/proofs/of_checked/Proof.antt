@@ -1,5 +1,5 @@
 -- `of_checked` meets its contract. Assumes nothing.
-use Rattle.astrephon.specs.Said.{checkedSays}
+use Rattle.astrephon.specs.Says.{checkedSays}
 use Rattle.said.proofs.Telling.{telling}
 use borrow.Author.Needs.{needs}
 use Rattle.said.proofs.of_checked.Statement.{statement}

@@ -1,5 +1,5 @@
 -- `of_listed` meets its contract. Assumes nothing.
-use Rattle.astrephon.specs.Said.{listedSays}
+use Rattle.astrephon.specs.Says.{listedSays}
 use Rattle.said.proofs.Telling.{telling}
 use borrow.Author.Needs.{needs}
 use Rattle.said.proofs.of_listed.Statement.{statement}

@@ -1,5 +1,5 @@
 -- `of_located` meets its contract. Assumes nothing.
-use Rattle.astrephon.specs.Said.{locatedSays}
+use Rattle.astrephon.specs.Says.{locatedSays}
 use Rattle.said.proofs.Telling.{telling}
 use borrow.Author.Needs.{needs}
 use Rattle.said.proofs.of_located.Statement.{statement}

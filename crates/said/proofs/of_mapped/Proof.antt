@@ -1,5 +1,5 @@
 -- `of_mapped` meets its contract. Assumes nothing.
-use Rattle.astrephon.specs.Said.{mappedSays}
+use Rattle.astrephon.specs.Says.{mappedSays}
 use Rattle.said.proofs.Telling.{telling}
 use borrow.Author.Needs.{needs}
 use Rattle.said.proofs.of_mapped.Statement.{statement}

@@ -1,5 +1,5 @@
 -- `of_measured` meets its contract. Assumes nothing.
-use Rattle.astrephon.specs.Said.{measuredSays}
+use Rattle.astrephon.specs.Says.{measuredSays}
 use Rattle.said.proofs.Telling.{telling}
 use borrow.Author.Needs.{needs}
 use Rattle.said.proofs.of_measured.Statement.{statement}

@@ -1,5 +1,5 @@
 -- `of_spanned` meets its contract. Assumes nothing.
-use Rattle.astrephon.specs.Said.{spannedSays}
+use Rattle.astrephon.specs.Says.{spannedSays}
 use Rattle.said.proofs.Telling.{telling}
 use borrow.Author.Needs.{needs}
 use Rattle.said.proofs.of_spanned.Statement.{statement}

@@ -1,5 +1,5 @@
 -- `of_written` meets its contract. Assumes nothing.
-use Rattle.astrephon.specs.Said.{writtenSays}
+use Rattle.astrephon.specs.Says.{writtenSays}
 use Rattle.said.proofs.Telling.{telling}
 use borrow.Author.Needs.{needs}
 use Rattle.said.proofs.of_written.Statement.{statement}

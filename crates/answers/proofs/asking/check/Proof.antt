@@ -1,6 +1,6 @@
 -- `check` meets its contract. Assumes nothing.
 use mathlib.Core.Path.{ap}
-use Rattle.astrephon.specs.Said.{checkedSays}
+use Rattle.astrephon.specs.Says.{checkedSays}
 use Rattle.astrephon.specs.Check.{checkCall}
 use Rattle.answers.proofs.Replies.{asked}
 use borrow.Author.Needs.{needs}

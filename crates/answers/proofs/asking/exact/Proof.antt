@@ -1,5 +1,5 @@
 -- `exact` meets its contract. Assumes nothing.
-use Rattle.astrephon.specs.Said.{mappedSays}
+use Rattle.astrephon.specs.Says.{mappedSays}
 use Rattle.astrephon.specs.Maps.{exactCall}
 use Rattle.answers.proofs.Replies.{asked}
 use borrow.Author.Needs.{needs}

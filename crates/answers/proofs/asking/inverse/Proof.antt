@@ -1,5 +1,5 @@
 -- `inverse` meets its contract. Assumes nothing.
-use Rattle.astrephon.specs.Said.{locatedSays}
+use Rattle.astrephon.specs.Says.{locatedSays}
 use Rattle.astrephon.specs.Maps.{inverseCall}
 use Rattle.answers.proofs.Replies.{asked}
 use borrow.Author.Needs.{needs}

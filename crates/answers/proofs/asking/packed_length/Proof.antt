@@ -1,6 +1,6 @@
 -- `packed_length` meets its contract. Assumes nothing.
-use Rattle.astrephon.specs.Said.{measuredSays}
-use Rattle.astrephon.specs.Carries.{measuredCall}
+use Rattle.astrephon.specs.Says.{measuredSays}
+use Rattle.astrephon.specs.Carries.{packedLengthCall}
 use Rattle.answers.proofs.Replies.{asked}
 use borrow.Author.Needs.{needs}
 use Rattle.answers.proofs.asking.packed_length.Statement.{statement}
@@ -25,7 +25,7 @@ of-measured-requires : tie.Need-of-measured-requires
 of-measured-requires c κs = search needs
 
 returns : tie.Need-returns
-returns c = asked measuredSays (c .before .packed-len .result) (c .of-measured .ensures) (c .before .packed-len .ensures) (λ t. measuredCall (c .before .before .sheet1 .ensures t) (c .before .before .before .before .before .number-at .ensures t) (c .before .before .before .before .number-at2 .ensures t) (c .before .before .before .number-at3 .ensures t))
+returns c = asked measuredSays (c .before .packed-len .result) (c .of-measured .ensures) (c .before .packed-len .ensures) (λ t. packedLengthCall (c .before .before .sheet1 .ensures t) (c .before .before .before .before .before .number-at .ensures t) (c .before .before .before .before .number-at2 .ensures t) (c .before .before .before .number-at3 .ensures t))
 
 pub packed-length-spec : {M : Type 1} → statement M
 packed-length-spec =

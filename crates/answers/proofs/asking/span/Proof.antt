@@ -1,5 +1,5 @@
 -- `span` meets its contract. Assumes nothing.
-use Rattle.astrephon.specs.Said.{spannedSays}
+use Rattle.astrephon.specs.Says.{spannedSays}
 use Rattle.astrephon.specs.Maps.{spanCall}
 use Rattle.answers.proofs.Replies.{asked}
 use borrow.Author.Needs.{needs}

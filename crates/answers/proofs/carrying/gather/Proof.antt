@@ -1,6 +1,6 @@
 -- `gather` meets its contract. Assumes nothing.
-use Rattle.astrephon.specs.Said.{carriedSays}
-use Rattle.astrephon.specs.Carries.{gatheredCall}
+use Rattle.astrephon.specs.Says.{carriedSays}
+use Rattle.astrephon.specs.Carries.{gatherCall}
 use Rattle.answers.proofs.Replies.{told}
 use borrow.Author.Needs.{needs}
 use Rattle.answers.proofs.carrying.gather.Statement.{statement}
@@ -31,7 +31,7 @@ same-length : tie.Need-same-length
 same-length c = search needs
 
 returns : tie.Need-returns
-returns c = told carriedSays (c .before .before .before .gather .result) (c .of-carried .ensures) (c .before .before .before .gather .ensures) (λ t. gatheredCall (c .before .before .before .before .before .before .sheet1 .ensures t) (c .before .before .before .before .before .before .before .before .before .number-at .ensures t) (c .before .before .before .before .before .before .before .before .number-at2 .ensures t) (c .before .before .before .before .before .before .before .number-at3 .ensures t) (c .before .before .before .before .before .from .ensures t) (c .before .before .before .before .before .before .before .before .before .before .before .before .args .into .now))
+returns c = told carriedSays (c .before .before .before .gather .result) (c .of-carried .ensures) (c .before .before .before .gather .ensures) (λ t. gatherCall (c .before .before .before .before .before .before .sheet1 .ensures t) (c .before .before .before .before .before .before .before .before .before .number-at .ensures t) (c .before .before .before .before .before .before .before .before .number-at2 .ensures t) (c .before .before .before .before .before .before .before .number-at3 .ensures t) (c .before .before .before .before .before .from .ensures t) (c .before .before .before .before .before .before .before .before .before .before .before .before .args .into .now))
 
 pub gather-spec : {M : Type 1} → statement M
 gather-spec =

@@ -1,6 +1,6 @@
 -- `move_pair` meets its contract. Assumes nothing.
-use Rattle.astrephon.specs.Said.{carriedSays}
-use Rattle.astrephon.specs.Moves.{pairMovedCall}
+use Rattle.astrephon.specs.Says.{carriedSays}
+use Rattle.astrephon.specs.Moves.{pairMoveCall}
 use Rattle.answers.proofs.Replies.{told}
 use borrow.Author.Needs.{needs}
 use Rattle.answers.proofs.carrying.move_pair.Statement.{statement}
@@ -37,7 +37,7 @@ same-length : tie.Need-same-length
 same-length c = search needs
 
 returns : tie.Need-returns
-returns c = told carriedSays (c .before .before .before .move-pair .result) (c .of-carried .ensures) (c .before .before .before .move-pair .ensures) (λ t. pairMovedCall (c .before .before .before .before .before .before .before .sheet1 .ensures t) (c .before .before .before .before .before .before .sheet2 .ensures t) (c .before .before .before .before .before .before .before .before .before .before .before .number-at .ensures t) (c .before .before .before .before .before .before .before .before .before .before .number-at2 .ensures t) (c .before .before .before .before .before .before .before .before .before .number-at3 .ensures t) (c .before .before .before .before .before .before .before .before .number-at4 .ensures t) (c .before .before .before .before .before .from .ensures t) (c .before .before .before .before .before .before .before .before .before .before .before .before .before .before .args .into .now))
+returns c = told carriedSays (c .before .before .before .move-pair .result) (c .of-carried .ensures) (c .before .before .before .move-pair .ensures) (λ t. pairMoveCall (c .before .before .before .before .before .before .before .sheet1 .ensures t) (c .before .before .before .before .before .before .sheet2 .ensures t) (c .before .before .before .before .before .before .before .before .before .before .before .number-at .ensures t) (c .before .before .before .before .before .before .before .before .before .before .number-at2 .ensures t) (c .before .before .before .before .before .before .before .before .before .number-at3 .ensures t) (c .before .before .before .before .before .before .before .before .number-at4 .ensures t) (c .before .before .before .before .before .from .ensures t) (c .before .before .before .before .before .before .before .before .before .before .before .before .before .before .args .into .now))
 
 pub move-pair-spec : {M : Type 1} → statement M
 move-pair-spec =

@@ -1,6 +1,6 @@
 -- `move_tray` meets its contract. Assumes nothing.
-use Rattle.astrephon.specs.Said.{carriedSays}
-use Rattle.astrephon.specs.Moves.{movedCall}
+use Rattle.astrephon.specs.Says.{carriedSays}
+use Rattle.astrephon.specs.Moves.{moveCall}
 use Rattle.answers.proofs.Replies.{told}
 use borrow.Author.Needs.{needs}
 use Rattle.answers.proofs.carrying.move_tray.Statement.{statement}
@@ -31,7 +31,7 @@ same-length : tie.Need-same-length
 same-length c = search needs
 
 returns : tie.Need-returns
-returns c = told carriedSays (c .before .before .before .move-tray .result) (c .of-carried .ensures) (c .before .before .before .move-tray .ensures) (λ t. movedCall (c .before .before .before .before .before .before .before .sheet1 .ensures t) (c .before .before .before .before .before .before .sheet2 .ensures t) (c .before .before .before .before .before .before .before .before .before .number-at .ensures t) (c .before .before .before .before .before .before .before .before .number-at2 .ensures t) (c .before .before .before .before .before .from .ensures t) (c .before .before .before .before .before .before .before .before .before .before .before .before .args .into .now))
+returns c = told carriedSays (c .before .before .before .move-tray .result) (c .of-carried .ensures) (c .before .before .before .move-tray .ensures) (λ t. moveCall (c .before .before .before .before .before .before .before .sheet1 .ensures t) (c .before .before .before .before .before .before .sheet2 .ensures t) (c .before .before .before .before .before .before .before .before .before .number-at .ensures t) (c .before .before .before .before .before .before .before .before .number-at2 .ensures t) (c .before .before .before .before .before .from .ensures t) (c .before .before .before .before .before .before .before .before .before .before .before .before .args .into .now))
 
 pub move-tray-spec : {M : Type 1} → statement M
 move-tray-spec =

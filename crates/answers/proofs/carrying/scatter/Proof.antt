@@ -1,6 +1,6 @@
 -- `scatter` meets its contract. Assumes nothing.
-use Rattle.astrephon.specs.Said.{carriedSays}
-use Rattle.astrephon.specs.Carries.{scatteredCall}
+use Rattle.astrephon.specs.Says.{carriedSays}
+use Rattle.astrephon.specs.Carries.{scatterCall}
 use Rattle.answers.proofs.Replies.{told}
 use borrow.Author.Needs.{needs}
 use Rattle.answers.proofs.carrying.scatter.Statement.{statement}
@@ -31,7 +31,7 @@ same-length : tie.Need-same-length
 same-length c = search needs
 
 returns : tie.Need-returns
-returns c = told carriedSays (c .before .before .before .scatter .result) (c .of-carried .ensures) (c .before .before .before .scatter .ensures) (λ t. scatteredCall (c .before .before .before .before .before .before .sheet1 .ensures t) (c .before .before .before .before .before .before .before .before .before .number-at .ensures t) (c .before .before .before .before .before .before .before .before .number-at2 .ensures t) (c .before .before .before .before .before .before .before .number-at3 .ensures t) (c .before .before .before .before .before .from .ensures t) (c .before .before .before .before .before .before .before .before .before .before .before .before .args .into .now))
+returns c = told carriedSays (c .before .before .before .scatter .result) (c .of-carried .ensures) (c .before .before .before .scatter .ensures) (λ t. scatterCall (c .before .before .before .before .before .before .sheet1 .ensures t) (c .before .before .before .before .before .before .before .before .before .number-at .ensures t) (c .before .before .before .before .before .before .before .before .number-at2 .ensures t) (c .before .before .before .before .before .before .before .number-at3 .ensures t) (c .before .before .before .before .before .from .ensures t) (c .before .before .before .before .before .before .before .before .before .before .before .before .args .into .now))
 
 pub scatter-spec : {M : Type 1} → statement M
 scatter-spec =

@@ -1,5 +1,5 @@
 -- `list_runs` meets its contract. Assumes nothing.
-use Rattle.astrephon.specs.Said.{listedSays}
+use Rattle.astrephon.specs.Says.{listedSays}
 use Rattle.answers.proofs.Replies.{shared-left}
 use borrow.Author.Needs.{needs}
 use Rattle.answers.proofs.writing.list_runs.Statement.{statement}

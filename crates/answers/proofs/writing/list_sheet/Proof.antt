@@ -2,8 +2,8 @@
 use mathlib.Core.List.{List}
 use mathlib.Core.Path.{ap}
 use Prim.Native.Nat.{ℕ}
-use Rattle.astrephon.specs.Said.{writtenSays}
-use Rattle.astrephon.specs.Texts.{writtenCall}
+use Rattle.astrephon.specs.Says.{writtenSays}
+use Rattle.astrephon.specs.Texts.{listingCall}
 use Rattle.answers.proofs.Replies.{told}
 use borrow.Author.Needs.{needs}
 use Rattle.answers.proofs.writing.list_sheet.Statement.{statement}
@@ -22,7 +22,7 @@ same-length : tie.Need-same-length
 same-length c = search needs
 
 returns : tie.Need-returns
-returns c = told writtenSays (c .before .before .before .list-sheet .result) (c .of-written .ensures) (c .before .before .before .list-sheet .ensures) (ap (λ (s : List ℕ). writtenCall s (c .before .before .before .before .before .before .before .before .args .into .now)) (c .before .before .before .before .before .sheet1 .ensures))
+returns c = told writtenSays (c .before .before .before .list-sheet .result) (c .of-written .ensures) (c .before .before .before .list-sheet .ensures) (ap (λ (s : List ℕ). listingCall s (c .before .before .before .before .before .before .before .before .args .into .now)) (c .before .before .before .before .before .sheet1 .ensures))
 
 pub list-sheet-spec : {M : Type 1} → statement M
 list-sheet-spec =

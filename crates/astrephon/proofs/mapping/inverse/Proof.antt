@@ -31,7 +31,7 @@ call-refusal-requires-2 : tie.Need-call-refusal-requires-2
 call-refusal-requires-2 c κs = search needs
 
 returns-3 : tie.Need-returns-3
-returns-3 c = inverse-beyond (opened _ _ (c .before .before .before .before .before .before .before .before .before .before .open-element .ensures) (c .before .before .before .before .before .before .if1 .left)) _ _ (c .before .before .before .file-inverse .ensures) (c .before .if3 .taken) _ (c .call-refusal2 .ensures)
+returns-3 c = inverse-beyond (opened _ _ (c .before .before .before .before .before .before .before .before .before .before .open-element .ensures) (c .before .before .before .before .before .before .if1 .left)) (c .before .before .before .before .before .before .before .before .before .before .before .before .before .args .y .0) _ _ (c .before .before .before .file-inverse .ensures) (omega arith) (c .before .if3 .taken) _ (c .call-refusal2 .ensures)
 
 returns-4 : tie.Need-returns-4
 returns-4 c = inverse-at (opened _ _ (c .before .before .before .before .before .before .before .before .before .open-element .ensures) (c .before .before .before .before .before .if1 .left)) _ _ (c .before .before .file-inverse .ensures) (c .if3 .left)

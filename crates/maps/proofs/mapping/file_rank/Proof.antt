@@ -1,7 +1,7 @@
 -- `file_rank` meets its contract. Assumes nothing.
 use native.Mathlib.Omega.{arith}
 use borrow.Author.Needs.{needs}
-use Rattle.maps.proofs.Mapped.{period-some, place-small, rank-before, rank-by-periods, rank-small}
+use Rattle.maps.proofs.Mapped.{period-some, place-small, rank-before, rank-by-periods, rank-small, whole-small}
 use Rattle.maps.proofs.mapping.file_rank.Statement.{statement}
 use Rattle.maps.proofs.mapping.file_rank.Tie as tie
 
@@ -30,7 +30,7 @@ rank-requires : tie.Need-rank-requires
 rank-requires c κs = search needs
 
 mul-t12 : tie.Need-mul-t12
-mul-t12 c = omega (arith, rank-small (c .before .before .before .before .before .before .pre) _ (omega arith) _ (c .rank .ensures))
+mul-t12 c = let start = c .before .before .before .before .before .before in omega (arith, whole-small (start .pre) (start .args .x .0) (omega arith))
 
 add-t14 : tie.Need-add-t14
 add-t14 c = omega (arith, rank-small (c .before .before .before .before .before .before .pre) _ (omega arith) _ (c .rank .ensures))
