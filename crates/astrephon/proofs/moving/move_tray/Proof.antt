@@ -24,7 +24,7 @@ returns-2 : tie.Need-returns-2
 returns-2 c = moved-fault _ _ (c .before .before .before .before .before .before .before .before .before .open-sheets .ensures) _ _ _ _ (c .before .before .before .before .before .before .if1 .left) _ _ (c .before .before .before .larger .ensures) (c .before .before .trays-fault .ensures) _ (c .call-refusal .ensures) (c .before .if2 .taken)
 
 move-tray-requires : tie.Need-move-tray-requires
-move-tray-requires c κs = let a = c .before .before .before .before .before .before .before .before .before .before .before .before .before .before .args in move-asks _ _ (c .before .before .before .before .before .before .before .before .before .open-sheets .ensures) _ _ (a .tray1 .now) (a .tray2 .now) (c .before .before .before .before .before .before .if1 .left) _ _ (c .before .before .before .larger .ensures) (c .before .before .trays-fault .ensures) (c .before .if2 .left) _ refl refl
+move-tray-requires c κs = let a = c .before .before .before .before .before .before .before .before .before .before .before .before .before .before .args in let K = move-asks _ _ (c .before .before .before .before .before .before .before .before .before .open-sheets .ensures) _ _ (a .tray1 .now) (a .tray2 .now) (c .before .before .before .before .before .before .if1 .left) _ _ (c .before .before .before .larger .ensures) (c .before .before .trays-fault .ensures) (c .before .if2 .left) _ refl refl in (K .0, (search (K .0, K .1 .0), K .1 .1))
 
 same-length : tie.Need-same-length
 same-length c = search needs
