@@ -12,18 +12,19 @@ use Rattle.sheets.specs.Refusals.{firstFault}
 use Rattle.sheets.specs.Sheet.{readSheet}
 use Rattle.openings.specs.Said.{Said, done}
 use Rattle.openings.specs.Refusals.{ELEMENT, callRefusal}
-use Rattle.openings.specs.Offsets.{LIMIT, offsetsOf, elementTest, pairTests, bothFrom, unlessWindow}
+use Rattle.openings.specs.Offsets.{LIMIT, offsetsOf, elementTest, pairTests, windowTests, bothFrom, unlessWindow}
 use Rattle.openings.specs.Buffers.{packedLength, trayTests}
-use Rattle.openings.proofs.Orders.{row-there, sheet-passed, fault-refused, fault-passed, left-held, writes}
-use Rattle.openings.proofs.Opens.{element-on}
+use Rattle.openings.proofs.Orders.{row-there, sheet-passed, fault-refused, fault-passed, fault-through, same-value, left-held, writes}
+use Rattle.openings.proofs.Opens.{element-on, element-through}
 use Rattle.openings.proofs.PairOpens.{sheets-on, elements-on}
-use Rattle.openings.proofs.Faults.{range-fine, buffer-fine, trays-buffers}
-use Rattle.astrephon.specs.Carries.{gatherOf, scatterOf, gatherCall, scatterCall}
+use Rattle.openings.proofs.Faults.{range-fine, range-known, buffer-fine, trays-buffers}
+use Rattle.astrephon.specs.Carries.{packedLengthOf, gatherOf, scatterOf, gatherCall, scatterCall}
 use Rattle.astrephon.specs.Moves.{elementsRead, moveOf, pairMoveOf, moveCall, pairMoveCall}
+use Rattle.astrephon.specs.declared.Measured.the-variants.{Bytes}
 use Rattle.astrephon.specs.declared.Carried.{Carried}
 use Rattle.astrephon.specs.declared.Carried.the-variants.{Done}
 use Rattle.astrephon.specs.Sequences.{Takes, Forward}
-use Rattle.astrephon.proofs.Contracts.{Made, Gather, Scatter, MoveTray, MovePair}
+use Rattle.astrephon.proofs.Contracts.{Made, PackedLen, Gather, Scatter, MoveTray, MovePair}
 use Rattle.astrephon.proofs.Saying.{carried-same}
 
 module _ {a b : ℕ} (W : Forward a b) where
@@ -98,3 +99,30 @@ module _ {a b : ℕ} (W : Forward a b) where
     unfolding pairMoveOf
     pair-absent i j none =
         left-held held _ (fault-refused _ _ ELEMENT none (callRefusal ELEMENT 0) refl (λ z. absurd (omega arith)) ∙ sheets-on _ r1 r2 (X .fine) (Y .fine))
+
+-- ---- PACKED LENGTH IS WHAT IS ASKED FOR: where it is answered, gather and scatter do their work with a packed buffer of that length, and a file buffer of the window's
+module _ (m : Made 1) (xs : List ℕ) (e a b n : ℕ) (p : PackedLen m xs e a b (Bytes n)) where
+  record Measures : Type 0 where
+    takes : Takes xs a
+    window : Forward a b
+    there : e < readSheet xs .layout .elements
+    count : packedLength (readSheet xs) e a b ≡ n
+
+  measures : Measures
+  unfolding packedLengthOf
+  measures =
+      let element = element-through (readSheet xs) e (sym p) in
+      let window = fault-through (windowTests (readSheet xs .layout .displacement) a b) (element .2) in
+      let known = range-known LIMIT (readSheet xs .layout .displacement) a b 0 (sym (window .0)) refl in record {
+        takes = record { fine = element .0; after = known .1 };
+        window = record { forward = known .0; near = known .2 };
+        there = element .1;
+        count = same-value (window .1);
+      }
+
+  module _ (m′ : Made 3) (from held : List ℕ) (answer : Carried) (later : List ℕ) where
+    pub packed-len-then-gather : length from ≡ b - a → length held ≡ n → Gather m′ xs e a b from held answer later → answer ≡ Done
+    packed-len-then-gather long count = gather-done (measures .window) (measures .takes) e (measures .there) m′ from held answer later long (count ∙ sym (measures .count))
+
+    pub packed-len-then-scatter : length held ≡ b - a → length from ≡ n → Scatter m′ xs e a b from held answer later → answer ≡ Done
+    packed-len-then-scatter long count = scatter-done (measures .window) (measures .takes) e (measures .there) m′ from held answer later long (count ∙ sym (measures .count))

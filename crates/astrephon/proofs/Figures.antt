@@ -50,17 +50,17 @@ pub length-F : length sheetF ≡ 94
 unfolding sheetF encode elementsBytes elementBytes forestBytes familyBytes width two four
 length-F = refl
 
--- a row: what a call says and what its buffer holds afterwards, and what 01 says
+-- a row: what a call says and what its buffer holds afterwards, or a tray that no call is asked for; and what 01 has there
 pub record Figure : Type 0 where
-  pub says : Outcome
+  pub call : Outcome
   pub wanted : Outcome
 
 -- of a call that writes nothing
 abbrev saying : (call wanted : Said) → Figure
-saying call wanted = record { says = record { says = call; later = [] }; wanted = record { says = wanted; later = [] } }
+saying call wanted = record { call = record { says = call; later = [] }; wanted = record { says = wanted; later = [] } }
 
-abbrev writing : (call : Outcome) → (wanted : Said) → (later : List ℕ) → Figure
-writing call wanted later = record { says = call; wanted = record { says = wanted; later = later } }
+abbrev wrote : (call : Outcome) → (wanted : Said) → (later : List ℕ) → Figure
+wrote call wanted later = record { call = call; wanted = record { says = wanted; later = later } }
 
 abbrev refusedSheet : (number place flag : ℕ) → Said
 refusedSheet number place flag = refused number 1 place flag
@@ -70,18 +70,18 @@ refusedCall number place = refused number 0 place NO-FLAG
 
 -- the listing of a sheet, into a buffer of nines that is two bytes longer
 abbrev lists : (sheet text : List ℕ) → Figure
-lists sheet text = writing (listingCall sheet (replicate (length text + 2) 9)) (done (length text ∷ [])) (text ++ (9 ∷ 9 ∷ []))
+lists sheet text = wrote (listingCall sheet (replicate (length text + 2) 9)) (done (length text ∷ [])) (text ++ (9 ∷ 9 ∷ []))
 
 -- the shared runs of the first element of each, from 0 to b
 abbrev shares : (first second : List ℕ) → (b : ℕ) → (list : List ℕ) → Said → (later : List ℕ) → Figure
-shares first second b list wanted later = writing (sharedRunsCall first second 0 0 0 b list) wanted later
+shares first second b list wanted later = wrote (sharedRunsCall first second 0 0 0 b list) wanted later
 
 -- the tray of a sheet, of bytes equal to their offsets; and a move from one to the other, into a buffer of nines
 abbrev trays : List ℕ → (a b : ℕ) → (wanted : List ℕ) → Figure
-trays sheet a b wanted = writing (record { says = done []; later = tray (elementsRead (readSheet sheet)) a (b - a) (λ x. x) }) (done []) wanted
+trays sheet a b wanted = wrote (record { says = done []; later = tray (elementsRead (readSheet sheet)) a (b - a) (λ x. x) }) (done []) wanted
 
 abbrev moves : (first second : List ℕ) → (a b : ℕ) → (tray1 tray2 : List ℕ) → Figure
-moves first second a b tray1 tray2 = writing (moveCall first second a b tray1 (replicate (length tray1) 9)) (done []) tray2
+moves first second a b tray1 tray2 = wrote (moveCall first second a b tray1 (replicate (length tray1) 9)) (done []) tray2
 
 -- lists whose slots all hold 9
 abbrev sevenSlots : List ℕ
@@ -125,6 +125,7 @@ unfoldable pub reasoned : List Figure
 reasoned =
     saying (inverseCall sheetF 1 2) (done (10 ∷ []))
     ∷ saying (exactCall sheetC 1 (5 * 1920 + 3 * 80 + 2 * 12)) (done (2464 ∷ []))
+    ∷ saying (inverseCall sheetC 1 2464) (done (9864 ∷ []))
     ∷ shares sheetA sheetB 12 sevenSlots (refusedCall ROOM 2) sevenSlots
     ∷ shares sheetA sheetB 12 eightSlots (done (2 ∷ [])) (0 ∷ 1 ∷ 0 ∷ 0 ∷ 6 ∷ 1 ∷ 2 ∷ 3 ∷ [])
     ∷ shares sheetPairs sheetSingles 32 eightSlots (done (2 ∷ [])) (0 ∷ 1 ∷ 0 ∷ 0 ∷ 16 ∷ 1 ∷ 4 ∷ 4 ∷ [])
@@ -139,10 +140,10 @@ reasoned =
     ∷ []
 
 -- THE TABLE
-abbrev pub table : List Figure
-table = computed ++ reasoned
+abbrev pub all : List Figure
+all = computed ++ reasoned
 
-computed-hold : map (λ (f : Figure). f .says) computed ≡ map (λ (f : Figure). f .wanted) computed
+computed-hold : map (λ (f : Figure). f .call) computed ≡ map (λ (f : Figure). f .wanted) computed
 unfolding computed sheetF sheetHole sheetOverlap encode elementsBytes elementBytes forestBytes familyBytes two four width total flat totals flats
     elementsAt layoutOf checkOf exactOf nextOf textOutcome offsetsOf unlessSheet unlessFault afterwards readSheet answer judged accepted refusal
     firstUneven sizes elementsOf elementsFrom forestFrom siblingsFrom fault bodyTests elementTests headerTests familyTests badSegment familyRecord
@@ -183,18 +184,18 @@ unfolding moved tray gathered trayPlace countIn countBelow has inSegments anyBel
 moves-A-B = (refl, refl, refl, refl)
 
 tray-says : (sheet : List ℕ) (L : Elements) → elementsRead (readSheet sheet) ≡ L → (a b : ℕ) (wanted : List ℕ) → tray L a (b - a) (λ x. x) ≡ wanted
-    → trays sheet a b wanted .says ≡ trays sheet a b wanted .wanted
+    → trays sheet a b wanted .call ≡ trays sheet a b wanted .wanted
 tray-says sheet L is a b wanted e = λ i. record { says = done []; later = (ap (λ (M : Elements). tray M a (b - a) (λ x. x)) is ∙ e) i }
 
 move-says : (first second : List ℕ) (a b : ℕ) (tray1 tray2 later : List ℕ) → moveCall first second a b tray1 (replicate (length tray1) 9) ≡ record { says = done []; later = later } → later ≡ tray2
-    → moves first second a b tray1 tray2 .says ≡ moves first second a b tray1 tray2 .wanted
+    → moves first second a b tray1 tray2 .call ≡ moves first second a b tray1 tray2 .wanted
 move-says first second a b tray1 tray2 later q e = q ∙ (λ i. record { says = done []; later = e i })
 
 -- an outcome of a call that writes nothing
-said : {call wanted : Said} → call ≡ wanted → saying call wanted .says ≡ saying call wanted .wanted
+said : {call wanted : Said} → call ≡ wanted → saying call wanted .call ≡ saying call wanted .wanted
 said q = λ i. record { says = q i; later = [] }
 
-reasoned-hold : map (λ (f : Figure). f .says) reasoned ≡ map (λ (f : Figure). f .wanted) reasoned
+reasoned-hold : map (λ (f : Figure). f .call) reasoned ≡ map (λ (f : Figure). f .wanted) reasoned
 unfolding reasoned
 reasoned-hold =
     let a = tray-says sheetA layoutA (layouts .0) 0 12 longA (trays-A-B .0) in
@@ -205,7 +206,7 @@ reasoned-hold =
     let f = move-says sheetB sheetA 0 12 longB longA _ (B-to-A 0 12 (omega arith) (omega arith) longB _ refl refl) (moves-A-B .1) in
     let g = move-says sheetA sheetB 1 5 shortA shortB _ (A-to-B 1 5 (omega arith) (omega arith) shortA _ refl refl) (moves-A-B .2) in
     let h = move-says sheetB sheetA 1 5 shortB shortA _ (B-to-A 1 5 (omega arith) (omega arith) shortB _ refl refl) (moves-A-B .3) in
-    λ i. said inverse-F i ∷ said panel-exact i ∷ seven-A-B i ∷ eight-A-B i ∷ eight-pairs-singles i ∷ a i ∷ b i ∷ c i ∷ d i ∷ e i ∷ f i ∷ g i ∷ h i ∷ []
+    λ i. said inverse-F i ∷ said panel-exact i ∷ said (inverse-of sheetC 1 9864 2464 panel-exact) i ∷ seven-A-B i ∷ eight-A-B i ∷ eight-pairs-singles i ∷ a i ∷ b i ∷ c i ∷ d i ∷ e i ∷ f i ∷ g i ∷ h i ∷ []
 
-pub figures : map (λ (f : Figure). f .says) table ≡ map (λ (f : Figure). f .wanted) table
-figures = map-append (λ (f : Figure). f .says) computed reasoned ∙ ap₂ _++_ computed-hold reasoned-hold ∙ sym (map-append (λ (f : Figure). f .wanted) computed reasoned)
+pub figures : map (λ (f : Figure). f .call) all ≡ map (λ (f : Figure). f .wanted) all
+figures = map-append (λ (f : Figure). f .call) computed reasoned ∙ ap₂ _++_ computed-hold reasoned-hold ∙ sym (map-append (λ (f : Figure). f .wanted) computed reasoned)

@@ -9,6 +9,7 @@ pub mod Contracts
 pub mod Saying
 pub mod Unique
 pub mod Refusing
+pub mod Exactly
 pub mod Undoing
 pub mod Sequences
 pub mod Accepting

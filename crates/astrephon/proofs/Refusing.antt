@@ -2,7 +2,7 @@
 use mathlib.Core.Path.{_≡_, refl, _∙_}
 use mathlib.Core.List.{List, [], _∷_}
 use mathlib.Core.Bool.{not}
-use Prim.Native.Nat.{ℕ, _-_, max}
+use Prim.Native.Nat.{ℕ, _-_}
 use lib.Dec.{leb, ltb}
 use lib.ListN.{length}
 use Rattle.counting.proofs.Cases.{byTest}
@@ -99,8 +99,7 @@ module _ (m : Made 3) where
   pub shared-runs-tabled : (xs ys : List ℕ) (i j a b : ℕ) (held : List ℕ) (r : Listed) (later : List ℕ) → SharedRuns m xs ys i j a b held r later → OfTable (listedSays r)
   unfolding sharedRunsOf listed oneOf
   shared-runs-tabled xs ys i j a b held r later p =
-      let d = max (readSheet xs .layout .displacement) (readSheet ys .layout .displacement) in
-      rw (p .0) (elements-tabled _ (fault-tabled _ (room-tabled _ held _ (done-tabled _)) (windowTests d a b) refl) xs ys i j)
+      rw (p .0) (elements-tabled _ (fault-tabled _ (room-tabled _ held _ (done-tabled _)) (windowTests (bothFrom (readSheet xs) (readSheet ys)) a b) refl) xs ys i j)
 
   module _ (xs : List ℕ) (e a b : ℕ) (from held : List ℕ) (r : Carried) (later : List ℕ) where
     pub gather-tabled : Gather m xs e a b from held r later → OfTable (carriedSays r)

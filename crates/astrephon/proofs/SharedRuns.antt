@@ -2,7 +2,7 @@
 use mathlib.Core.Path.{_≡_, refl, sym, _∙_}
 use mathlib.Core.Bool.{Bool}
 use mathlib.Core.List.{List, [], _∷_, _++_}
-use Prim.Native.Nat.{ℕ, _+_, _-_, _*_, _≤_, _<_, max}
+use Prim.Native.Nat.{ℕ, _+_, _-_, _*_, _≤_, _<_}
 use native.Mathlib.Omega.{arith}
 use lib.Dec.{leb}
 use lib.ListN.{length, drop}
@@ -16,7 +16,7 @@ use Rattle.sheets.specs.declared.Reading.{Reading}
 use Rattle.sheets.specs.Sheet.{readSheet}
 use Rattle.openings.specs.Said.{Said, done}
 use Rattle.openings.specs.Refusals.{ROOM, callRefusal}
-use Rattle.openings.specs.Offsets.{LIMIT, offsetsOf, windowTests}
+use Rattle.openings.specs.Offsets.{LIMIT, offsetsOf, windowTests, bothFrom}
 use Rattle.openings.proofs.Orders.{never-both, fault-passed, fault-through, same-value, left-held, left-written}
 use Rattle.openings.proofs.Faults.{range-fine}
 use Rattle.openings.proofs.PairOpens.{elements-on, elements-through}
@@ -24,6 +24,7 @@ use Rattle.runs.specs.Listing.{both, sharedRuns, listOf, capacity}
 use Rattle.astrephon.specs.declared.Listed.{Listed}
 use Rattle.astrephon.specs.declared.Listed.the-variants.{Runs, Refused}
 use Rattle.astrephon.specs.Shares.{runsOfPair, unlessRoom, sharedRunsOf}
+use Rattle.astrephon.specs.Sequences.{Takes, Forward}
 use Rattle.astrephon.proofs.Contracts as contracts
 use Rattle.astrephon.proofs.Saying.{listed-same}
 use Rattle.astrephon.proofs.Listings.{room-refused}
@@ -58,10 +59,6 @@ module _ (m : contracts.Made 3) (xs ys : List ℕ) (i j a b : ℕ) (held later :
   abbrev r2 : Reading
   r2 = readSheet ys
 
-  -- the call as the checks have it, up to the list's room
-  abbrev d : ℕ
-  d = max (r1 .layout .displacement) (r2 .layout .displacement)
-
   -- THE ANSWER is the number of runs, and the list holds them
   pub shared-says : (n : ℕ) → contracts.SharedRuns m xs ys i j a b held (Runs n) later
       → let runs = runsOfPair r1 r2 i j a b in (n ≡ length runs) × (n ≤ capacity held) × (later ≡ listOf (offsetsOf r1 i) (offsetsOf r2 j) runs ++ drop (4 * length runs) held)
@@ -69,20 +66,19 @@ module _ (m : contracts.Made 3) (xs ys : List ℕ) (i j a b : ℕ) (held later :
   shared-says n p =
       let runs = runsOfPair r1 r2 i j a b in
       let there = elements-through r1 r2 i j (sym (p .0)) in
-      let window = fault-through (windowTests d a b) (there .4) in
+      let window = fault-through (windowTests (bothFrom r1 r2) a b) (there .4) in
       let room = room-through (length runs) held (window .1) in
       let count : length runs ≡ n = same-value (room .1) in
       (sym count, omega (arith, room .0), p .1 ∙ left-written held (listOf (offsetsOf r1 i) (offsetsOf r2 j) runs ++ drop (4 * length runs) held) (p .0))
 
   -- THE ROOM that is wanted where the list is too short: as many runs as there are, and the list stays
-  pub shared-room-says : r1 .number ≡ 0 → r2 .number ≡ 0 → i < r1 .layout .elements → j < r2 .layout .elements
-      → r1 .layout .displacement ≤ a → r2 .layout .displacement ≤ a → a ≤ b → b ≤ LIMIT → capacity held < length (runsOfPair r1 r2 i j a b)
+  pub shared-room-says : Takes xs a → Takes ys a → Forward a b → i < r1 .layout .elements → j < r2 .layout .elements → capacity held < length (runsOfPair r1 r2 i j a b)
       → (r : Listed) → contracts.SharedRuns m xs ys i j a b held r later → (r ≡ Refused (callRefusal ROOM (length (runsOfPair r1 r2 i j a b)))) × (later ≡ held)
   unfolding sharedRunsOf
-  shared-room-says fine1 fine2 there1 there2 after1 after2 forward near short r p =
+  shared-room-says X Y W first second short r p =
       let n = length (runsOfPair r1 r2 i j a b) in
       let refuses =
       room-refused n held (done (n ∷ [])) short (callRefusal ROOM n) refl
-      ∙ fault-passed _ (windowTests d a b) 0 (range-fine LIMIT d a b forward (omega arith) near) refl
-      ∙ elements-on r1 r2 i j _ fine1 fine2 there1 there2 in
+      ∙ fault-passed _ (windowTests (bothFrom r1 r2) a b) 0 (range-fine LIMIT _ a b (W .forward) (omega (arith, X .after, Y .after)) (W .near)) refl
+      ∙ elements-on r1 r2 i j _ (X .fine) (Y .fine) first second in
       (listed-same r (Refused (callRefusal ROOM n)) (p .0 ∙ sym refuses), p .1 ∙ left-held held _ refuses)

@@ -73,7 +73,7 @@ module _ (r : Reading) (e : ℕ) where
       let F = nth-found (offsetsOf r e) LIMIT y (nth-exactly (offsetsOf r e) LIMIT y .0 near) in
       (record { fine = element .0; there = element .1 }, (ap (offsetsOf r e) (sym is) ∙ F .passes, ap (rankOf r e) (sym is) ∙ F .rank), omega (arith, is))
 
--- ---- EXACT MAPPING AND INVERSE undo each other, where both are accepted
+-- ---- EXACT MAPPING AND INVERSE undo each other: where one is accepted so is the other, and it gives back what was asked
 module _ (xs : List ℕ) (e : ℕ) where
   pub inverse-of : (x y : ℕ) → exactCall xs e x ≡ done (y ∷ []) → inverseCall xs e y ≡ done (x ∷ [])
   inverse-of x y q =
