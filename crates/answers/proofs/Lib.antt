@@ -5,4 +5,5 @@ pub mod Hexes
 pub mod Slots
 pub mod Unwritten
 pub mod Replies
+pub mod Kept
 pub mod Figures

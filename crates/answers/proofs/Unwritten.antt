@@ -8,7 +8,6 @@ use lib.Seq.{take-add, take-at}
 use Rattle.sheets.specs.Bytes.{le32, two, four, Bytes}
 use Rattle.sheets.proofs.Numbers.{le32-lt, four-was}
 use Rattle.answers.specs.Numbers.{le64, lowest, slotsIn, slotsOf, slotBytes, withSlots}
-use Rattle.answers.specs.Replies.{sharing, sharedOutcome}
 use Rattle.answers.proofs.Slots.{lowest-length, slots-length, slotBytes-append}
 
 lowest-cons : (k b rest : ℕ) → b < 256 → lowest (suc k) (b + 256 * rest) ≡ b ∷ lowest k rest
@@ -68,8 +67,3 @@ module _ (xs : List ℕ) (B : Bytes xs) where
   pub unwritten : withSlots (slotsOf xs) xs ≡ xs
   unfolding withSlots
   unwritten = rw (slots-back (length xs / 8) (omega arith), slots-length) (take-append-drop (8 * (length xs / 8)) xs)
-
--- so a call that leaves the list as it was leaves the buffer as it was
-pub list-kept : (xs into : List ℕ) → Bytes into → sharing xs (slotsOf into) .later ≡ slotsOf into → sharedOutcome xs into .later ≡ into
-unfolding sharedOutcome
-list-kept xs into B same = ap (λ (l : List ℕ). withSlots l into) same ∙ unwritten into B

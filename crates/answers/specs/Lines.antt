@@ -28,7 +28,8 @@ buffer (b ∷ bs) = hex (b ∷ bs)
 unfoldable pub line : Answer → (into : List ℕ) → List ℕ
 line a into = fields a ++ (buffer into ++ (10 ∷ []))
 
--- there is room for the answer to a frame of some length: for its destination buffer, and for its line. No frame is longer than the longest
+-- there is room for the answer to a frame of some length: for its destination buffer, and for its line, which has seven numbers of at most 20 digits, a space
+-- after each, the buffer or `-`, and the line end. No frame is longer than the longest
 pub record Room (frame space text : ℕ) : Type 0 where
   pub most : frame ≤ 65532
   pub buffered : frame ≤ space

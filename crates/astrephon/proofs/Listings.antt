@@ -1,10 +1,10 @@
 -- The call `shared_runs`, case by case: two elements are opened for the window, and the runs are listed or there is no room. Assumes nothing.
 use mathlib.Core.Path.{_≡_, refl, ap, ap₂, _∙_}
 use mathlib.Core.Bool.{Bool}
-use mathlib.Core.List.{List, [], _∷_, _++_}
+use mathlib.Core.List.{List, [], _∷_}
 use Prim.Native.Nat.{ℕ, _*_, _≤_, _<_}
 use native.Mathlib.Omega.{arith}
-use lib.ListN.{length, drop}
+use lib.ListN.{length}
 use borrow.Author.Tests.{le-leb, lt-leb}
 use Rattle.counting.specs.Runs.{Run}
 use Rattle.sheets.specs.declared.Reading.{Reading}
@@ -21,7 +21,7 @@ use Rattle.openings.proofs.Orders.{writes-not, writes}
 use Rattle.openings.proofs.Verdicts.{verdict-refused, verdict-none}
 use Rattle.openings.proofs.PairOpens.{Paired, paired}
 use Rattle.runs.specs.Walking.{Side·ok, Window·ok}
-use Rattle.runs.specs.Listing.{sharedRuns, listOf, capacity, listAfter}
+use Rattle.runs.specs.Listing.{sharedRuns, listWith, capacity, listAfter}
 use Rattle.astrephon.specs.Shares.{runsOfPair, unlessRoom, sharedRunsOf}
 use Rattle.astrephon.proofs.Asks.{side-ok}
 
@@ -37,7 +37,7 @@ module _ (n : ℕ) (held : List ℕ) (next : Said) where
 
 -- .. after the engine went over it
 module _ (p q : ℕ → Bool) (runs : List Run) (held : List ℕ) where
-  all-listed : length runs ≤ capacity held → listAfter p q runs held ≡ listOf p q runs ++ drop (4 * length runs) held
+  all-listed : length runs ≤ capacity held → listAfter p q runs held ≡ listWith p q runs held
   unfolding listAfter
   all-listed h = rw (le-leb (length runs) (capacity held) h) refl
 

@@ -1,10 +1,10 @@
 -- The layouts of 01's figures: each sheet is read once, and what its first element has is said by its families. Assumes nothing.
 use mathlib.Core.Path.{_≡_, refl, sym, ap, ap₂, _∙_}
 use mathlib.Core.Bool.{Bool}
-use mathlib.Core.List.{List, [], _∷_, _++_}
+use mathlib.Core.List.{List, [], _∷_}
 use Prim.Native.Nat.{ℕ, _*_, _≤_, _<_, max}
 use native.Mathlib.Omega.{arith}
-use lib.ListN.{length, drop}
+use lib.ListN.{length}
 use Rattle.counting.specs.Count.{countBelow, stretch}
 use Rattle.counting.specs.Periodic.{owns}
 use Rattle.counting.specs.Elements.{times}
@@ -24,7 +24,7 @@ use Rattle.openings.specs.Offsets.{LIMIT, offsetsOf, windowTests, unlessWindows
 use Rattle.openings.proofs.Orders.{fault-passed}
 use Rattle.openings.proofs.PairOpens.{elements-on}
 use Rattle.openings.proofs.Faults.{range-fine}
-use Rattle.runs.specs.Listing.{sharedRuns, listOf}
+use Rattle.runs.specs.Listing.{sharedRuns, listWith}
 use Rattle.astrephon.specs.Shares.{unlessRoom, sharedRunsOf, sharedRunsCall}
 
 -- one family of one segment without children, as the figures have them
@@ -97,7 +97,7 @@ windows-on F G Fs Gs b near next =
 unfoldable pub listedOf : (p q : ℕ → Bool) → (b : ℕ) → (held : List ℕ) → Outcome
 listedOf p q b held =
     let runs = sharedRuns p q 0 b in
-    writing (unlessRoom (length runs) held (done (length runs ∷ []))) held (listOf p q runs ++ drop (4 * length runs) held)
+    writing (unlessRoom (length runs) held (done (length runs ∷ []))) held (listWith p q runs held)
 
 listed-first : (F G : Forest) (Fs Gs : List Forest) (b : ℕ) → b ≤ LIMIT → (held : List ℕ)
     → sharedRunsOf (accepted 0 (F ∷ Fs)) (accepted 0 (G ∷ Gs)) 0 0 0 b held ≡ listedOf (offsetsOf (accepted 0 (F ∷ Fs)) 0) (offsetsOf (accepted 0 (G ∷ Gs)) 0) b held
@@ -106,7 +106,7 @@ listed-first F G Fs Gs b near held =
     let p = offsetsOf (accepted 0 (F ∷ Fs)) 0 in
     let q = offsetsOf (accepted 0 (G ∷ Gs)) 0 in
     let runs = sharedRuns p q 0 b in
-    ap (λ (s : Said). writing s held (listOf p q runs ++ drop (4 * length runs) held)) (sym (windows-on F G Fs Gs b near (unlessRoom (length runs) held (done (length runs ∷ [])))))
+    ap (λ (s : Said). writing s held (listWith p q runs held)) (sym (windows-on F G Fs Gs b near (unlessRoom (length runs) held (done (length runs ∷ [])))))
 
 shared-first : (xs ys : List ℕ) (F G : Forest) (Fs Gs : List Forest) (p q : ℕ → Bool) → readSheet xs ≡ accepted 0 (F ∷ Fs) → readSheet ys ≡ accepted 0 (G ∷ Gs)
     → offsetsOf (accepted 0 (F ∷ Fs)) 0 ≡ p → offsetsOf (accepted 0 (G ∷ Gs)) 0 ≡ q → (b : ℕ) → b ≤ LIMIT → (held : List ℕ)

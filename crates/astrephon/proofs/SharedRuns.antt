@@ -1,11 +1,11 @@
 -- What the answer to `shared_runs` says: how many runs there are and what the list holds, and when there is no room; and what the runs are. Assumes nothing.
 use mathlib.Core.Path.{_≡_, refl, sym, _∙_}
 use mathlib.Core.Bool.{Bool}
-use mathlib.Core.List.{List, [], _∷_, _++_}
+use mathlib.Core.List.{List, [], _∷_}
 use Prim.Native.Nat.{ℕ, _+_, _-_, _*_, _≤_, _<_}
 use native.Mathlib.Omega.{arith}
 use lib.Dec.{leb}
-use lib.ListN.{length, drop}
+use lib.ListN.{length}
 use borrow.Author.Tests.{leb-true}
 use Rattle.counting.specs.Count.{countIn}
 use Rattle.counting.specs.Runs.{total, covers, Spaced, Maximal}
@@ -20,7 +20,7 @@ use Rattle.openings.specs.Offsets.{LIMIT, offsetsOf, windowTests, bothFrom}
 use Rattle.openings.proofs.Orders.{never-both, fault-passed, fault-through, same-value, left-held, left-written}
 use Rattle.openings.proofs.Faults.{range-fine}
 use Rattle.openings.proofs.PairOpens.{elements-on, elements-through}
-use Rattle.runs.specs.Listing.{both, sharedRuns, listOf, capacity}
+use Rattle.runs.specs.Listing.{both, sharedRuns, listWith, capacity}
 use Rattle.astrephon.specs.declared.Listed.{Listed}
 use Rattle.astrephon.specs.declared.Listed.the-variants.{Runs, Refused}
 use Rattle.astrephon.specs.Shares.{runsOfPair, unlessRoom, sharedRunsOf}
@@ -61,7 +61,7 @@ module _ (m : contracts.Made 3) (xs ys : List ℕ) (i j a b : ℕ) (held later :
 
   -- THE ANSWER is the number of runs, and the list holds them
   pub shared-says : (n : ℕ) → contracts.SharedRuns m xs ys i j a b held (Runs n) later
-      → let runs = runsOfPair r1 r2 i j a b in (n ≡ length runs) × (n ≤ capacity held) × (later ≡ listOf (offsetsOf r1 i) (offsetsOf r2 j) runs ++ drop (4 * length runs) held)
+      → let runs = runsOfPair r1 r2 i j a b in (n ≡ length runs) × (n ≤ capacity held) × (later ≡ listWith (offsetsOf r1 i) (offsetsOf r2 j) runs held)
   unfolding sharedRunsOf
   shared-says n p =
       let runs = runsOfPair r1 r2 i j a b in
@@ -69,7 +69,7 @@ module _ (m : contracts.Made 3) (xs ys : List ℕ) (i j a b : ℕ) (held later :
       let window = fault-through (windowTests (bothFrom r1 r2) a b) (there .4) in
       let room = room-through (length runs) held (window .1) in
       let count : length runs ≡ n = same-value (room .1) in
-      (sym count, omega (arith, room .0), p .1 ∙ left-written held (listOf (offsetsOf r1 i) (offsetsOf r2 j) runs ++ drop (4 * length runs) held) (p .0))
+      (sym count, omega (arith, room .0), p .1 ∙ left-written held (listWith (offsetsOf r1 i) (offsetsOf r2 j) runs held) (p .0))
 
   -- THE ROOM that is wanted where the list is too short: as many runs as there are, and the list stays
   pub shared-room-says : Takes xs a → Takes ys a → Forward a b → i < r1 .layout .elements → j < r2 .layout .elements → capacity held < length (runsOfPair r1 r2 i j a b)

@@ -67,16 +67,10 @@ pub fn move_pair(
         return Carried::Refused(openings::call_refusal(fault, 0));
     }
     let window = Window { start: a, end: b };
-    trays::move_pair(
-        one,
-        both.one.size,
-        two,
-        both.two.size,
-        i as usize,
-        j as usize,
-        window,
-        tray1,
-        tray2,
-    );
+    let size1 = both.one.size;
+    let size2 = both.two.size;
+    let first = i as usize;
+    let second = j as usize;
+    trays::move_pair(one, size1, two, size2, first, second, window, tray1, tray2);
     Carried::Done
 }

@@ -7,7 +7,7 @@ use crate::Listed;
 use maps::Window;
 
 // The maximal runs of file offsets from a up to but not including b that are in element i of sheet 1 and in element j of sheet 2, ascending, four slots
-// a run: its start, its length, the subfile offset of its start in each element. The list is written where it holds them all, and answers how many there are.
+// a run: its start, its length, the subfile offset of its start in each element. The call answers how many there are, and writes the list where it holds them all.
 pub fn shared_runs(
     sheet1: &[u8],
     sheet2: &[u8],

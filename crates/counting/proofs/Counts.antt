@@ -97,10 +97,6 @@ count-cut p last x = ⊎-elim beyond before (lt-or-le last x)
     before l = rw (min-eq-left {n = x} {m = last + 1} (omega arith)) (same x (omega arith))
 
 -- ---- windows: a window is a count that starts at its front
-pub countIn-ext : (p q : ℕ → Bool) (a n : ℕ) → ((x : ℕ) → a ≤ x → x < a + n → p x ≡ q x) → countIn p a n ≡ countIn q a n
-unfolding countIn
-countIn-ext p q a n h = count-ext _ _ n (λ y l. h (a + y) (omega arith) (omega arith))
-
 pub countIn-split : (p : ℕ → Bool) (a m n : ℕ) → countIn p a (m + n) ≡ countIn p a m + countIn p (a + m) n
 countIn-split p a m n =
     let e : a + (m + n) ≡ a + m + n = omega arith in

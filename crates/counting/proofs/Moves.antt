@@ -1,4 +1,4 @@
--- Moves between trays: along a chain of layouts, and pair by pair of elements. Assumes nothing.
+-- Moves between trays: one after the other, and pair by pair of elements. Assumes nothing.
 use mathlib.Core.Path.{_≡_, refl, sym, ap, _∙_}
 use mathlib.Core.Bool.{Bool, true, false, _&&_, cond}
 use mathlib.Core.List.{List, [], _∷_, _++_, foldl}
@@ -8,7 +8,7 @@ use lib.ListN.{length, take, drop}
 use Rattle.counting.specs.Count.{countIn}
 use Rattle.counting.specs.Gather.{gathered}
 use Rattle.counting.specs.Elements.{Elements, element, times, firstOf, Partition}
-use Rattle.counting.specs.Trays.{counts, inTray, moved, movedAlong, Partitions, pairMoved, pairMoves, EachPair}
+use Rattle.counting.specs.Trays.{counts, inTray, moved, pairMoved, pairMoves, EachPair}
 use Rattle.counting.proofs.Cases.{cond-same}
 use Rattle.counting.proofs.Elements.{first-lt, first-has}
 use Rattle.counting.proofs.Folds.{kept, reached}
@@ -26,23 +26,10 @@ module _ (L M : Elements) (a n : ℕ) (once : Partition M a n) (t : List ℕ) wh
   unfolding moved
   moved-at = tray-at M a n once (inTray L a n t)
 
--- ---- chains
+-- ---- TWO MOVES, one after the other, are one
 pub moved-moved : (L M N : Elements) (a n : ℕ) → Partition M a n → (t : List ℕ) → moved M N a n (moved L M a n t) ≡ moved L N a n t
 unfolding moved
 moved-moved L M N a n once t = tray-ext N a n _ _ (λ x h k _. tray-at M a n once (inTray L a n t) x h k)
-
--- A CHAIN OF TWO OR MORE LAYOUTS, L and then Ms and N at the end, moves as L to N does at once
-pub moved-along : (L : Elements) (Ms : List Elements) (N : Elements) (a n : ℕ) → Partitions Ms a n → (t : List ℕ)
-    → movedAlong L (Ms ++ (N ∷ [])) a n t ≡ moved L N a n t
-unfolding movedAlong Partitions
-moved-along L [] N a n once t = refl
-moved-along L (M ∷ Ms) N a n once t = moved-along M Ms N a n (once .1) (moved L M a n t) ∙ moved-moved L M N a n (once .0) t
-
--- A CHAIN BACK to its first layout restores every byte
-pub chain-back : (L : Elements) (Ms : List Elements) (a n : ℕ) → Partition L a n → Partitions Ms a n → (t : List ℕ) → length t ≡ n
-    → movedAlong L (Ms ++ (L ∷ [])) a n t ≡ t
-unfolding moved
-chain-back L Ms a n once all t long = moved-along L Ms L a n all t ∙ tray-of L a n once t long
 
 -- ---- pair moves
 module _ (L M : Elements) (a n : ℕ) (once : Partition M a n) (t : List ℕ) where

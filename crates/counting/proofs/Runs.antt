@@ -162,9 +162,6 @@ runs-spaced p a (suc n) =
     (λ e. rw e (glue-spaced a 1 (suc a) (a + suc n) (runsOf p (suc a) n) (omega arith) (omega arith) (omega arith) ih))
     (λ e. rw e (nearer 1 1 a (suc a) (a + suc n) (runsOf p (suc a) n) (omega arith) (omega arith) ih))
 
-pub runs-joined : (p : ℕ → Bool) (a n : ℕ) → joined (runsOf p a n) [] ≡ runsOf p a n
-runs-joined p a n = apart-joined a (a + n) (runsOf p a n) (runs-spaced p a n)
-
 -- ---- they have exactly the numbers of the window that pass
 in-two : (s m k x : ℕ) (t : Bool) → ((leb s x && ltb x (s + (m + k))) || t) ≡ ((leb s x && ltb x (s + m)) || ((leb (s + m) x && ltb x (s + m + k)) || t))
 in-two s m k x t = ⊎-elim

@@ -31,16 +31,6 @@ inTray L a n t x = getD t (trayPlace L a n x) 0
 unfoldable pub moved : (L M : Elements) → (a n : ℕ) → (t : List ℕ) → List ℕ
 moved L M a n t = tray M a n (inTray L a n t)
 
--- moves one after the other: from L to the first of the list, from there to the next, to the last
-unfoldable pub movedAlong : (L : Elements) → List Elements → (a n : ℕ) → (t : List ℕ) → List ℕ
-movedAlong L [] a n t = t
-movedAlong L (M ∷ Ms) a n t = movedAlong M Ms a n (moved L M a n t)
-
--- each layout of a list shares the window out
-unfoldable pub Partitions : List Elements → (a n : ℕ) → Type 0
-Partitions [] a n = Unit {0}
-Partitions (L ∷ Ls) a n = Partition L a n × Partitions Ls a n
-
 -- THE PAIR MOVE: u, a tray of M, with t's bytes at what element i of L and element j of M share
 unfoldable pub pairMoved : (L M : Elements) → (a n : ℕ) → (t : List ℕ) → (i j : ℕ) → (u : List ℕ) → List ℕ
 pairMoved L M a n t i j u = tray M a n (λ x. cond (element L i x && element M j x) (inTray L a n t x) (inTray M a n u x))

@@ -29,9 +29,13 @@ listOf p q (r ∷ rs) = slotsOf p q r ++ listOf p q rs
 abbrev pub capacity : (slots : List ℕ) → ℕ
 capacity slots = length slots / 4
 
--- THE LIST afterwards: the runs' slots and then the old ones; all old ones where it does not hold every run
+-- THE LIST with some runs in it: their slots, and then the old ones
+abbrev pub listWith : (p q : ℕ → Bool) → List Run → (old : List ℕ) → List ℕ
+listWith p q runs old = listOf p q runs ++ drop (4 * length runs) old
+
+-- .. afterwards: all old ones stay where it does not hold every run
 unfoldable pub listAfter : (p q : ℕ → Bool) → List Run → (old : List ℕ) → List ℕ
-listAfter p q runs old = cond (leb (length runs) (capacity old)) (listOf p q runs ++ drop (4 * length runs) old) old
+listAfter p q runs old = cond (leb (length runs) (capacity old)) (listWith p q runs old) old
 
 -- WHAT LISTING DOES: it says how many shared runs the window from a to b has, and leaves that list
 pub record Listed (p q : ℕ → Bool) (a b : ℕ) (old new : List ℕ) (runs : ℕ) : Type 0 where

@@ -24,7 +24,7 @@ FAMILY-KIND = 3
 unfoldable pub lengthOf : (kind : ℕ) → ℕ
 lengthOf kind = cond (eqb kind HEADER-KIND) 8 (cond (eqb kind ELEMENT-KIND) 4 (cond (eqb kind FAMILY-KIND) 20 0))
 
--- where a record of the kind is expected
+-- what is told of a record before its body, where one of the kind is expected
 unfoldable pub headTests : List ℕ → (kind at : ℕ) → List Test
 headTests xs kind at =
     (SHORT when ltb (length xs) (at + 4))
@@ -62,7 +62,7 @@ headerTests xs at = (COUNT when eqb (le16 xs (at + 8)) 0 || ltb 16 (le16 xs (at 
 unfoldable pub elementTests : List ℕ → (at : ℕ) → List Test
 elementTests xs at = (COUNT when eqb (le16 xs (at + 4)) 0) ∷ []
 
--- the body of a record of the kind; no unknown kind is ever expected
+-- .. and of its body. No unknown kind is ever expected, so the last arm tells of no sheet
 unfoldable pub bodyTests : (levels : ℕ) → Limits → List ℕ → (kind at : ℕ) → List Test
 bodyTests levels m xs kind at =
     cond (eqb kind HEADER-KIND) (headerTests xs at)
