@@ -50,8 +50,8 @@ module _ {s : Selection} {row : List ℕ} (ok : Selection·ok s row) where
       rank-small = omega (arith, rank-by-periods, count-le (belongs s row) x)
 
     -- .. and so is what whole periods count
-    pub whole-small : (x - s .from) / s .period * s .size ≤ x
-    whole-small = omega (arith, rank-small (countBelow (has (familiesOf s row)) ((x - s .from) % s .period)) refl)
+    pub whole-small : x < 2 ^ 64 → (x - s .from) / s .period * s .size < 2 ^ 64
+    whole-small near = omega (arith, rank-small (countBelow (has (familiesOf s row)) ((x - s .from) % s .period)) refl)
 
   -- ---- byte y of the selection
   module _ (y : ℕ) where

@@ -30,7 +30,7 @@ rank-requires : tie.Need-rank-requires
 rank-requires c κs = search needs
 
 mul-t12 : tie.Need-mul-t12
-mul-t12 c = let start = c .before .before .before .before .before .before in omega (arith, whole-small (start .pre) (start .args .x .0) (omega arith))
+mul-t12 c = record { fits = whole-small (c .before .before .before .before .before .before .pre) _ (omega arith) (omega arith) }
 
 add-t14 : tie.Need-add-t14
 add-t14 c = omega (arith, rank-small (c .before .before .before .before .before .before .pre) _ (omega arith) _ (c .rank .ensures))
