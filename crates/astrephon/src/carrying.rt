@@ -11,7 +11,7 @@ use maps::Window;
 pub fn packed_len(sheet: &[u8], element: u64, a: FileOffset, b: FileOffset) -> Measured
     ensures { λ r. ⌜ measuredSays r ≡ packedLengthCall (now (sheet .entry)) element (a .0) (b .0) ⌝ }
 {
-    let mut numbers = [0u32; 1536];
+    let mut numbers = [0u32; families::ROW];
     let opening = openings::open_window(sheet, element, a, b, &mut numbers);
     let refusal = opening.refusal;
     if refusal.number != 0 {
@@ -33,7 +33,7 @@ pub fn gather(
     ensures { λ r. let outcome = gatherCall (now (sheet .entry)) element (a .0) (b .0) (now (file .entry)) (now (packed .entry)) in
         ⌜ carriedSays r ≡ outcome .says ⌝ ∗ ⌜ now (packed .exit) ≡ outcome .later ⌝ }
 {
-    let mut numbers = [0u32; 1536];
+    let mut numbers = [0u32; families::ROW];
     let opening = openings::open_buffers(
         sheet,
         element,
@@ -64,7 +64,7 @@ pub fn scatter(
     ensures { λ r. let outcome = scatterCall (now (sheet .entry)) element (a .0) (b .0) (now (packed .entry)) (now (file .entry)) in
         ⌜ carriedSays r ≡ outcome .says ⌝ ∗ ⌜ now (file .exit) ≡ outcome .later ⌝ }
 {
-    let mut numbers = [0u32; 1536];
+    let mut numbers = [0u32; families::ROW];
     let opening = openings::open_buffers(
         sheet,
         element,

@@ -12,7 +12,7 @@ use crate::SubfileOffset;
 pub fn exact(sheet: &[u8], element: u64, x: FileOffset) -> Mapped
     ensures { λ r. ⌜ mappedSays r ≡ exactCall (now (sheet .entry)) element (x .0) ⌝ }
 {
-    let mut numbers = [0u32; 1536];
+    let mut numbers = [0u32; families::ROW];
     let opening = openings::open_element(sheet, element, &mut numbers);
     let refusal = opening.refusal;
     let selection = opening.selection;
@@ -34,7 +34,7 @@ pub fn exact(sheet: &[u8], element: u64, x: FileOffset) -> Mapped
 pub fn next(sheet: &[u8], element: u64, x: FileOffset) -> Mapped
     ensures { λ r. ⌜ mappedSays r ≡ nextCall (now (sheet .entry)) element (x .0) ⌝ }
 {
-    let mut numbers = [0u32; 1536];
+    let mut numbers = [0u32; families::ROW];
     let opening = openings::open_element(sheet, element, &mut numbers);
     let refusal = opening.refusal;
     let selection = opening.selection;
@@ -53,7 +53,7 @@ pub fn next(sheet: &[u8], element: u64, x: FileOffset) -> Mapped
 pub fn inverse(sheet: &[u8], element: u64, y: SubfileOffset) -> Located
     ensures { λ r. ⌜ locatedSays r ≡ inverseCall (now (sheet .entry)) element (y .0) ⌝ }
 {
-    let mut numbers = [0u32; 1536];
+    let mut numbers = [0u32; families::ROW];
     let opening = openings::open_element(sheet, element, &mut numbers);
     let refusal = opening.refusal;
     if refusal.number != 0 {
@@ -74,7 +74,7 @@ pub fn inverse(sheet: &[u8], element: u64, y: SubfileOffset) -> Located
 pub fn span(sheet: &[u8], element: u64, a: FileOffset, z: FileOffset) -> Spanned
     ensures { λ r. ⌜ spannedSays r ≡ spanCall (now (sheet .entry)) element (a .0) (z .0) ⌝ }
 {
-    let mut numbers = [0u32; 1536];
+    let mut numbers = [0u32; families::ROW];
     let opening = openings::open_element(sheet, element, &mut numbers);
     let refusal = opening.refusal;
     let selection = opening.selection;

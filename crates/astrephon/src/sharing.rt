@@ -20,8 +20,8 @@ pub fn shared_runs(
     ensures { λ r. let outcome = sharedRunsCall (now (sheet1 .entry)) (now (sheet2 .entry)) i j (a .0) (b .0) (now (list .entry)) in
         ⌜ listedSays r ≡ outcome .says ⌝ ∗ ⌜ now (list .exit) ≡ outcome .later ⌝ }
 {
-    let mut numbers1 = [0u32; 1536];
-    let mut numbers2 = [0u32; 1536];
+    let mut numbers1 = [0u32; families::ROW];
+    let mut numbers2 = [0u32; families::ROW];
     let pair = openings::open_pair(sheet1, sheet2, i, j, a, b, &mut numbers1, &mut numbers2);
     let refusal = pair.refusal;
     if refusal.number != 0 {

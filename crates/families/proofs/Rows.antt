@@ -11,7 +11,7 @@ use Rattle.counting.specs.Gather.{tabulated}
 use Rattle.counting.proofs.Gathers.{length-tabulated, getD-tabulated, tabulated-list}
 use Rattle.families.specs.declared.Family.{Family}
 use Rattle.families.specs.declared.Layout.{Layout}
-use Rattle.families.specs.Decoded.{noFamily, familyIn, InUse, forestAt, elementOf, treeOf, rowOf, familyAt}
+use Rattle.families.specs.Decoded.{noFamily, familyIn, InUse, emptyRow, forestAt, elementOf, treeOf, rowOf, familyAt}
 use Rattle.families.proofs.Filling.{Filled, filled-all}
 
 -- ---- how long the row is
@@ -122,7 +122,7 @@ module _ {fams : List Family} {old numbers : List ℕ} {i : ℕ} (L : Laid fams 
       record { upto = omega arith; room = L .room; is = rw (before, after, e, more) (sym (append-assoc done one (drop (6 * (i + 1)) old))) }
 
   -- where all that are in use stand in a row of zeros, so does no family in the rest of it
-  pub laid-all : length fams ≡ 256 → old ≡ replicate 1536 0 → InUse i (familyIn fams) → numbers ≡ rowOf fams
+  pub laid-all : length fams ≡ 256 → old ≡ emptyRow → InUse i (familyIn fams) → numbers ≡ rowOf fams
   laid-all long zeros used =
       row-padded 256 i (take i fams) numbers (used .most) (L .is ∙ rw zeros refl) ∙ ap rowOf (used-padded fams 256 i long (used .none))
 

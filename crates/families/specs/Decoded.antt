@@ -4,7 +4,7 @@ use mathlib.Core.Path.{_≡_}
 use mathlib.Core.Bool.{Bool, true}
 use mathlib.Core.List.{List, [], _∷_}
 use Prim.Native.Nat.{ℕ, zero, suc, _+_, _-_, _*_, _^_, _≤_, _<_}
-use lib.ListN.{getD}
+use lib.ListN.{getD, replicate}
 use Rattle.counting.specs.Gather.{tabulated}
 use Rattle.families.specs.declared.Family.{Family}
 use Rattle.families.specs.declared.Element.{Element}
@@ -78,6 +78,13 @@ pub record Layout·ok (levels bound : ℕ) (t : Layout) : Type 0 where
   pub ruled : (e : ℕ) → e < t .elements → WF 0 bound (treeOf levels t e)
 
 -- ---- the families' numbers in a row, six a family, so that they can be lent. n stands last: a family that has a segment stands whole
+-- a row has room for 256 families, and a row of zeros holds none
+abbrev pub ROW : ℕ
+ROW = 1536
+
+abbrev pub emptyRow : List ℕ
+emptyRow = replicate ROW 0
+
 unfoldable pub rowOf : List Family → List ℕ
 rowOf [] = []
 rowOf (f ∷ fs) = f .children ∷ f .span ∷ f .l ∷ f .r ∷ f .s ∷ f .n ∷ rowOf fs

@@ -44,6 +44,9 @@ pub struct Layout {
     pub family: [Family; 256],
 }
 
+// How many numbers a row of families has: six for each of the 256 that a layout has room for.
+pub const ROW: usize = 1536;
+
 // The three counts of 01, which the code keeps apart: an offset in the file, one in an element's subfile, a place in a tray.
 pub struct FileOffset(pub u64);
 

@@ -2,15 +2,15 @@
 ghost use mathlib.Core.Path.{_≡_};
 ghost use mathlib.Core.List.{[], _∷_};
 ghost use Prim.Native.Nat.{_+_, _*_, _^_, _<_};
-ghost use lib.ListN.{length, replicate};
+ghost use lib.ListN.{length};
 ghost use Rattle.counting.specs.Gather.{tabulated};
-ghost use Rattle.families.specs.Decoded.{familyIn, InUse, familyAt, rowOf};
+ghost use Rattle.families.specs.Decoded.{familyIn, InUse, ROW, emptyRow, familyAt, rowOf};
 use crate::Family;
 use crate::Layout;
 
 // Lays a layout's families out in a row of zeros, which is what unused room has.
 pub fn lay_out(layout: Layout, numbers: &mut [u32])
-    requires { ⌜ InUse (layout .families) (familyIn (layout .family)) ⌝ ∗ ⌜ now numbers ≡ replicate 1536 0 ⌝ }
+    requires { ⌜ InUse (layout .families) (familyIn (layout .family)) ⌝ ∗ ⌜ now numbers ≡ emptyRow ⌝ }
     ensures { λ _. ⌜ now (numbers .exit) ≡ rowOf (layout .family) ⌝ }
 {
     let families = layout.families;
@@ -26,7 +26,7 @@ pub fn lay_out(layout: Layout, numbers: &mut [u32])
 
 // The families of a row, back in an array; `count` of them are in use.
 pub fn taken_up(numbers: &[u32], count: usize) -> [Family; 256]
-    requires { ⌜ length (now numbers) ≡ 1536 ⌝ ∗ ⌜ InUse count (familyAt (now numbers)) ⌝ }
+    requires { ⌜ length (now numbers) ≡ ROW ⌝ ∗ ⌜ InUse count (familyAt (now numbers)) ⌝ }
     ensures { λ r. ⌜ r ≡ tabulated 0 256 (familyAt (now (numbers .entry))) ⌝ }
 {
     let none = Family {

@@ -57,7 +57,7 @@ pub fn put_listing(sheet: &[u8], text: &mut [u8]) -> usize
         return line::put_refusal(reading.number, reading.place, reading.flag, text, 0);
     }
     let layout = reading.layout;
-    let mut numbers = [0u32; 1536];
+    let mut numbers = [0u32; families::ROW];
     families::lay_out(layout, &mut numbers);
     put_accepted(reading.size, layout, &numbers, text)
 }

@@ -1,9 +1,8 @@
 // Opening an element of a sheet, also for a window, or for a window and two buffers.
 ghost use mathlib.Core.Path.{_≡_};
 ghost use Prim.Native.Nat.{_-_, _≤_, _<_};
-ghost use lib.ListN.{replicate};
 ghost use Rattle.counting.specs.Count.{countBelow};
-ghost use Rattle.families.specs.Decoded.{rowOf, Layout·ok};
+ghost use Rattle.families.specs.Decoded.{emptyRow, rowOf, Layout·ok};
 ghost use Rattle.sheets.specs.Sheet.{readSheet};
 ghost use Rattle.maps.specs.Selected.{belongs, Selection·ok, selectionOf};
 ghost use Rattle.openings.specs.Offsets.{unlessElement, unlessWindow};
@@ -44,7 +43,7 @@ fn closed(refusal: Refusal) -> Opening
 // What element e of a layout selects, whose pattern has `size` offsets. The numbers of its families are laid out in the row, which is
 // lent as zeros, here and below.
 pub fn choose(layout: Layout, size: u32, element: usize, numbers: &mut [u32]) -> Selection
-    requires { ⌜ now numbers ≡ replicate 1536 0 ⌝ ∗ ⌜ Layout·ok 4 65535 layout ⌝ ∗ ⌜ element < layout .elements ⌝ }
+    requires { ⌜ now numbers ≡ emptyRow ⌝ ∗ ⌜ Layout·ok 4 65535 layout ⌝ ∗ ⌜ element < layout .elements ⌝ }
     ensures { λ r. ⌜ r ≡ selectionOf layout size element ⌝ ∗ ⌜ now (numbers .exit) ≡ rowOf (layout .family) ⌝ }
 {
     families::lay_out(layout, numbers);
@@ -53,7 +52,7 @@ pub fn choose(layout: Layout, size: u32, element: usize, numbers: &mut [u32]) ->
 
 // Opens an element of a sheet.
 pub fn open_element(sheet: &[u8], element: u64, numbers: &mut [u32]) -> Opening
-    requires { ⌜ now numbers ≡ replicate 1536 0 ⌝ }
+    requires { ⌜ now numbers ≡ emptyRow ⌝ }
     ensures { λ r. let reading = readSheet (now (sheet .entry)) in ⌜ Opens (unlessElement reading element) reading element r (now (numbers .exit)) ⌝ }
 {
     let reading = sheets::read(sheet);
@@ -79,7 +78,7 @@ pub fn open_window(
     b: FileOffset,
     numbers: &mut [u32],
 ) -> Opening
-    requires { ⌜ now numbers ≡ replicate 1536 0 ⌝ }
+    requires { ⌜ now numbers ≡ emptyRow ⌝ }
     ensures { λ r. let reading = readSheet (now (sheet .entry)) in
         ⌜ Opens (unlessWindow reading element (a .0) (b .0)) reading element r (now (numbers .exit)) ⌝ }
 {
@@ -116,7 +115,7 @@ pub fn open_buffers(
     packed: usize,
     numbers: &mut [u32],
 ) -> Opening
-    requires { ⌜ now numbers ≡ replicate 1536 0 ⌝ }
+    requires { ⌜ now numbers ≡ emptyRow ⌝ }
     ensures { λ r. let reading = readSheet (now (sheet .entry)) in
         ⌜ Opens (unlessBuffers reading element (a .0) (b .0) file packed) reading element r (now (numbers .exit)) ⌝ }
 {

@@ -1,6 +1,6 @@
 // Opening two sheets, and an element of each of them for a window.
 ghost use mathlib.Core.Path.{_≡_};
-ghost use lib.ListN.{replicate};
+ghost use Rattle.families.specs.Decoded.{emptyRow};
 ghost use Rattle.sheets.specs.Sheet.{readSheet};
 ghost use Rattle.openings.specs.Openings.{OpensPair, OpensSheets};
 use crate::Pair;
@@ -48,7 +48,7 @@ pub fn open_pair(
     numbers1: &mut [u32],
     numbers2: &mut [u32],
 ) -> Pair
-    requires { ⌜ now numbers1 ≡ replicate 1536 0 ⌝ ∗ ⌜ now numbers2 ≡ replicate 1536 0 ⌝ }
+    requires { ⌜ now numbers1 ≡ emptyRow ⌝ ∗ ⌜ now numbers2 ≡ emptyRow ⌝ }
     ensures { λ r. let one = readSheet (now (sheet1 .entry)) in let two = readSheet (now (sheet2 .entry)) in
         ⌜ OpensPair one two i j (a .0) (b .0) r (now (numbers1 .exit)) (now (numbers2 .exit)) ⌝ }
 {

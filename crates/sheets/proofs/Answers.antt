@@ -10,7 +10,7 @@ use borrow.Author.Tests.{lt-ltb, le-ltb}
 use Rattle.counting.specs.Gather.{tabulated}
 use Rattle.families.specs.declared.Layout.{Layout}
 use Rattle.families.specs.Forest.{Forest, nil, node, endOf}
-use Rattle.families.specs.Decoded.{noElement, noFamily, InUse, familyAt, rowOf, treesOf, Layout·ok}
+use Rattle.families.specs.Decoded.{noElement, noFamily, InUse, emptyRow, familyAt, rowOf, treesOf, Layout·ok}
 use Rattle.families.specs.Flat.{width, totals, flats, elementsAt, layoutOf, All}
 use Rattle.families.proofs.Forests.{wf-ended, end-le}
 use Rattle.families.proofs.Rows.{row-at, row-back, drop-replicate, row-padded}
@@ -34,7 +34,7 @@ padded {A = A} n a vs k e h =
 
 -- ---- THE LAYOUT: what was read, decoded, is the layout of its trees
 module _ (Fs : List Forest) (few : length Fs ≤ 16) (room : totals Fs ≤ 256) where
-  pub row-is : (d : ℕ) (row : List ℕ) → WrittenAll (got Fs) (replicate 1536 0) row → row ≡ rowOf (layoutOf d Fs .family)
+  pub row-is : (d : ℕ) (row : List ℕ) → WrittenAll (got Fs) emptyRow row → row ≡ rowOf (layoutOf d Fs .family)
   unfolding WrittenAll layoutOf
   row-is d row w = row-padded 256 (totals Fs) (flats Fs) row room w
 
@@ -45,13 +45,13 @@ module _ (Fs : List Forest) (few : length Fs ≤ 16) (room : totals Fs ≤ 256) 
       ap (λ (n : ℕ). tabulated 0 n (familyAt (rowOf all))) (sym long) ∙ row-back all
 
   -- behind its families the row holds none
-  pub row-used : (p : Progress) (row : List ℕ) → Progressed (got Fs) start p → WrittenAll (got Fs) (replicate 1536 0) row → InUse (p .families) (familyAt row)
+  pub row-used : (p : Progress) (row : List ℕ) → Progressed (got Fs) start p → WrittenAll (got Fs) emptyRow row → InUse (p .families) (familyAt row)
   unfolding Progressed start
   row-used p row e w =
       let U = layout-used 0 Fs room in
       rw (e, zero-add (totals Fs), row-is 0 row w) (record { most = U .most; none = λ i h. row-at (layoutOf 0 Fs .family) i ∙ U .none i h })
 
-  pub layout-is : (d : ℕ) (p : Progress) (row : List ℕ) → Progressed (got Fs) start p → WrittenAll (got Fs) (replicate 1536 0) row → layoutFrom d p row ≡ layoutOf d Fs
+  pub layout-is : (d : ℕ) (p : Progress) (row : List ℕ) → Progressed (got Fs) start p → WrittenAll (got Fs) emptyRow row → layoutFrom d p row ≡ layoutOf d Fs
   unfolding Progressed start layoutFrom layoutOf WrittenAll
   layout-is d p row e w =
       rw (e, row-padded 256 (totals Fs) (flats Fs) row room w)

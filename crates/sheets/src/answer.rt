@@ -3,7 +3,7 @@ ghost use mathlib.Core.Path.{_≡_};
 ghost use mathlib.Core.List.{[]};
 ghost use lib.ListN.{length};
 ghost use Prim.Native.Nat.{_-_, _≤_};
-ghost use Rattle.families.specs.Decoded.{InUse, Layout·ok, rowOf, familyAt};
+ghost use Rattle.families.specs.Decoded.{InUse, Layout·ok, ROW, rowOf, familyAt};
 ghost use Rattle.families.specs.Flat.{layoutOf};
 ghost use Rattle.sheets.specs.Sheet.{refusal, readSheet};
 ghost use Rattle.sheets.specs.Steps.{layoutFrom, judgedLayout};
@@ -20,7 +20,7 @@ use families::Layout;
 pub fn read(sheet: &[u8]) -> Reading
     ensures { λ r. ⌜ r ≡ readSheet (now (sheet .entry)) ⌝ }
 {
-    let mut numbers = [0u32; 1536];
+    let mut numbers = [0u32; families::ROW];
     let all = elements::read_records(sheet, &mut numbers);
     if all.number != 0 {
         return refuse(all.number, all.place as u64, crate::NO_FLAG);
@@ -32,7 +32,7 @@ pub fn read(sheet: &[u8]) -> Reading
 
 // The layout of elements whose families' numbers stand in a row.
 pub fn decoded(displacement: u32, all: Progress, numbers: &[u32]) -> Layout
-    requires { ⌜ length (now numbers) ≡ 1536 ⌝ ∗ ⌜ InUse (all .families) (familyAt (now numbers)) ⌝ }
+    requires { ⌜ length (now numbers) ≡ ROW ⌝ ∗ ⌜ InUse (all .families) (familyAt (now numbers)) ⌝ }
     ensures { λ r. ⌜ r ≡ layoutFrom displacement all (now (numbers .entry)) ⌝ }
 {
     let element = all.element;

@@ -2,6 +2,7 @@
 ghost use mathlib.Core.Path.{_≡_};
 ghost use Prim.Native.Nat.{_+_, _-_, _*_, _≤_, _<_};
 ghost use lib.ListN.{length};
+ghost use Rattle.families.specs.Decoded.{ROW};
 ghost use Rattle.sheets.specs.Sheet.{top, elementsFrom, elementsOf};
 ghost use Rattle.sheets.specs.Steps.{Progressed, WrittenAll, stopped, withElement, start};
 use crate::digits;
@@ -24,7 +25,7 @@ pub struct Progress {
 
 // Reads the header and all elements; no byte may follow them.
 pub fn read_records(sheet: &[u8], numbers: &mut [u32]) -> Progress
-    requires { ⌜ length (now numbers) ≡ 1536 ⌝ }
+    requires { ⌜ length (now numbers) ≡ ROW ⌝ }
     ensures { λ r. ⌜ Progressed (elementsOf (now (sheet .entry))) start r ⌝ ∗ ⌜ WrittenAll (elementsOf (now (sheet .entry))) (now (numbers .entry)) (now (numbers .exit)) ⌝ }
 {
     let begin = at_the_start();

@@ -151,8 +151,8 @@ pub fn move_chosen(
     if window.end.0 <= window.start.0 {
         return;
     }
-    let mut numbers1 = [0u32; 1536];
-    let mut numbers2 = [0u32; 1536];
+    let mut numbers1 = [0u32; families::ROW];
+    let mut numbers2 = [0u32; families::ROW];
     families::lay_out(layout1, &mut numbers1);
     families::lay_out(layout2, &mut numbers2);
     if tables::fits_all(&numbers1, layout1, size1, 2048)

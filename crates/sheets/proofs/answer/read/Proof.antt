@@ -6,7 +6,7 @@ use Rattle.sheets.specs.Sheet.{elementsOf}
 use Rattle.sheets.specs.Steps.{start, WrittenAll}
 use Rattle.sheets.specs.Refusals.{got}
 use Rattle.sheets.specs.Bytes.{le32}
-use lib.ListN.{replicate}
+use Rattle.families.specs.Decoded.{emptyRow}
 use Rattle.families.specs.Flat.{layoutOf}
 use Rattle.sheets.proofs.Shapes.{SheetRead, sheet-read, header-inside}
 use Rattle.sheets.proofs.Numbered.{sheet-numbered}
@@ -25,7 +25,7 @@ got-at c = let s = c .before .before .before in progress-got _ _ _ (sheet-number
 sheet-at : (c : tie.Else1) → SheetRead (c .before .before .before .before .before .before .args .sheet .now) (got-at c .elements)
 sheet-at c = sheet-read _ _ (got-at c .is)
 
-written-at : (c : tie.Else1) → WrittenAll (got (got-at c .elements)) (replicate 1536 0) (c .before .before .before .read-records .last .1 .0)
+written-at : (c : tie.Else1) → WrittenAll (got (got-at c .elements)) emptyRow (c .before .before .before .read-records .last .1 .0)
 written-at c = rw (got-at c .is) at (c .before .before .before .read-records .ensures .1)
 
 -- and the layout that they are
