@@ -1,7 +1,7 @@
 -- THE LISTING of a sheet, in 01's words. Each line ends in a line end. Assumes nothing: these are definitions.
 use mathlib.Core.Bool.{cond}
 use mathlib.Core.List.{List, [], _++_}
-use Prim.Native.Nat.{ℕ, zero, suc}
+use Prim.Native.Nat.{ℕ, zero, suc, _+_, _*_}
 use lib.Dec.{eqb}
 use Rattle.counting.specs.Count.{nth}
 use Rattle.families.specs.declared.Layout.{Layout}
@@ -43,6 +43,10 @@ refusalLine number place flag = (word "refused " ++ decimal number) ++ ((word " 
 
 unfoldable pub acceptedLines : (size : ℕ) → Layout → List ℕ
 acceptedLines size t = layoutLine (t .displacement) size (t .elements) ++ elementLines t (t .elements)
+
+-- no listing is longer: at most 97 bytes for the layout's line, and 104 for each of 16 elements
+abbrev pub LONGEST-LISTING : ℕ
+LONGEST-LISTING = 97 + 16 * 104
 
 unfoldable pub listing : Reading → List ℕ
 listing r = cond (eqb (r .number) 0) (acceptedLines (r .size) (r .layout)) (refusalLine (r .number) (r .place) (r .flag))

@@ -4,7 +4,7 @@ ghost use lib.ListN.{length};
 ghost use Rattle.sheets.specs.Sheet.{readSheet};
 ghost use Rattle.words.specs.Texts.{Put};
 ghost use Rattle.lines.specs.Listable.{familiesOf, Listable, AllListable};
-ghost use Rattle.lines.specs.Listing.{treeLine, elementLines, acceptedLines};
+ghost use Rattle.lines.specs.Listing.{treeLine, elementLines, acceptedLines, LONGEST-LISTING};
 ghost use Rattle.lines.specs.Listing.{listing as Listing·listing};
 use crate::line;
 use families::Element;
@@ -40,8 +40,8 @@ fn put_trees(layout: Layout, numbers: &[u32], text: &mut [u8], at: usize) -> usi
 
 // Puts the lines of an accepted sheet, whose pattern has `size` offsets.
 fn put_accepted(size: u32, layout: Layout, numbers: &[u32], text: &mut [u8]) -> usize
-    requires { ⌜ AllListable layout (now numbers) ⌝ ∗ ⌜ 1761 ≤ length (now text) ⌝ }
-    ensures { λ r. ⌜ Put (acceptedLines size layout) 1761 0 r (now (text .entry)) (now (text .exit)) ⌝ }
+    requires { ⌜ AllListable layout (now numbers) ⌝ ∗ ⌜ LONGEST-LISTING ≤ length (now text) ⌝ }
+    ensures { λ r. ⌜ Put (acceptedLines size layout) LONGEST-LISTING 0 r (now (text .entry)) (now (text .exit)) ⌝ }
 {
     let end = line::put_layout(layout.displacement, size, layout.elements, text, 0);
     put_trees(layout, numbers, text, end)
@@ -49,8 +49,8 @@ fn put_accepted(size: u32, layout: Layout, numbers: &[u32], text: &mut [u8]) -> 
 
 // Puts a sheet's listing at the front of the text, and answers how long it is.
 pub fn put_listing(sheet: &[u8], text: &mut [u8]) -> usize
-    requires { ⌜ 1761 ≤ length (now text) ⌝ }
-    ensures { λ r. ⌜ Put (Listing·listing (readSheet (now (sheet .entry)))) 1761 0 r (now (text .entry)) (now (text .exit)) ⌝ }
+    requires { ⌜ LONGEST-LISTING ≤ length (now text) ⌝ }
+    ensures { λ r. ⌜ Put (Listing·listing (readSheet (now (sheet .entry)))) LONGEST-LISTING 0 r (now (text .entry)) (now (text .exit)) ⌝ }
 {
     let reading = sheets::read(sheet);
     if reading.number != 0 {
