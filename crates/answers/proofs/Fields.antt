@@ -4,7 +4,7 @@ use mathlib.Core.List.{List}
 use Prim.Native.Nat.{ℕ, _+_, _<_}
 use native.Mathlib.Omega.{arith}
 use lib.ListN.{length, take, set, length-set}
-use Rattle.words.specs.Texts.{decimal, Put}
+use Rattle.words.specs.Texts.{word, decimal, Put}
 use Rattle.words.proofs.Puts.{put-byte, _then_}
 use Rattle.io.specs.Counts.{Counts}
 use Rattle.io.proofs.Counting.{counts}
@@ -13,7 +13,7 @@ use Rattle.answers.specs.Lines.{field, fields, buffer, line}
 
 -- a number's digits and a space
 pub put-field : (n : ℕ) {at end : ℕ} {before text : List ℕ} → Put (decimal n) 20 at end before text → end < length text → Put (field n) 21 at (end + 1) before (set text end 32)
-unfolding field
+unfolding field word
 put-field n {text = text} x room = x then put-byte 32 _ text room
 
 -- the seven numbers of an answer
@@ -27,7 +27,7 @@ put-fields a p1 p2 p3 p4 p5 p6 p7 = p1 then (p2 then (p3 then (p4 then (p5 then 
 module _ (a : Answer) (into : List ℕ) {most m e : ℕ} {t0 t1 t2 : List ℕ} (p : Put (fields a) 147 0 m t0 t1) (q : Put (buffer into) most m e t1 t2)
     (room : e < length t2) where
   put-end : Put (line a into) (147 + (most + 1)) 0 (e + 1) t0 (set t2 e 10)
-  unfolding line
+  unfolding line word
   put-end = p then (q then put-byte 10 e t2 room)
 
   pub line-is : (take (e + 1) (set t2 e 10) ≡ line a into) × Counts (e + 1) (set t2 e 10)

@@ -8,7 +8,7 @@ use lib.ListN.{length, take, set, getD, length-set}
 use lib.Seq.{take-suc, take-length}
 use Rattle.io.specs.Digits.{glyph}
 use Rattle.answers.specs.Lines.{hex, buffer}
-use Rattle.words.specs.Texts.{Put}
+use Rattle.words.specs.Texts.{word, Put}
 use Rattle.words.proofs.Puts.{put-byte, _then_}
 
 hex-append : (xs ys : List ℕ) → hex (xs ++ ys) ≡ hex xs ++ hex ys
@@ -65,7 +65,7 @@ module _ {bytes : List ℕ} {at : ℕ} {text : List ℕ} where
 -- an empty buffer is a dash, and any other its bytes
 module _ (at : ℕ) (text : List ℕ) where
   pub put-dash : (bytes : List ℕ) → length bytes ≡ 0 → at < length text → Put (buffer bytes) (2 * length bytes + 1) at (at + 1) text (set text at 45)
-  unfolding buffer
+  unfolding buffer word
   put-dash [] e h = put-byte 45 at text h
   put-dash (b ∷ bs) e h = absurd (omega arith)
 
