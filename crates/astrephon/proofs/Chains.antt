@@ -18,7 +18,7 @@ use Rattle.astrephon.specs.Moves.{elementsRead, pairMoveCall}
 use Rattle.astrephon.specs.Sequences.{Takes, Forward, Stop, AllTake}
 use Rattle.astrephon.proofs.Sequences.{Moved, Chain, Pairs}
 use Rattle.astrephon.proofs.Accepting.{move-does, pair-does, pair-absent}
-use Rattle.astrephon.proofs.Trays.{layout-length, past-none, shared-out}
+use Rattle.astrephon.proofs.Trays.{elements-length, past-none, shared-out}
 
 none-right : (s : Bool) {t : Bool} → t ≡ false → (s && t) ≡ false
 none-right true e = e
@@ -102,5 +102,5 @@ module _ {a b : ℕ} (W : Forward a b) where
     pairs-move-all pairs each held last two made own once three at-once =
         pairs-leave pairs held last two made
         ∙ pairs-move L M a (b - a) (shared-out Y (b - a)) t (shared-out X (b - a)) pairs
-        (λ i j h k. each i j (omega (arith, layout-length (readSheet xs))) (omega (arith, layout-length (readSheet ys)))) held two
+        (λ i j h k. each i j (omega (arith, elements-length (readSheet xs))) (omega (arith, elements-length (readSheet ys)))) held two
         ∙ sym (move-leaves X Y t own once one three at-once)

@@ -33,11 +33,11 @@ use Rattle.astrephon.specs.Texts.{textOutcome, listingCall}
 use Rattle.astrephon.proofs.Undoing.{inverse-of}
 use Rattle.astrephon.proofs.Panel.{sheetC, panel-exact}
 use Rattle.astrephon.proofs.TrayFigures.{layoutA, layoutB, layouts, A-to-B, B-to-A}
-use Rattle.astrephon.proofs.Samples.{only, sheetA, sheetB, sheetPairs, sheetSingles, listedOf, shared-A-B, shared-pairs-singles}
+use Rattle.astrephon.proofs.Samples.{only, elementsA, sheetA, sheetB, sheetPairs, sheetSingles, listedOf, shared-A-B, shared-pairs-singles}
 
--- the sheets of 01's layouts
+-- the sheets of 01's layouts; F has A's elements, from 2 on
 unfoldable pub sheetF : List ℕ
-sheetF = encode 2 (only 0 1 ∷ only 2 3 ∷ only 4 5 ∷ [])
+sheetF = encode 2 elementsA
 
 unfoldable pub sheetHole : List ℕ
 sheetHole = encode 0 (only 0 1 ∷ only 3 3 ∷ [])

@@ -23,7 +23,7 @@ use Rattle.astrephon.specs.Moves.{elementsRead}
 use Rattle.astrephon.specs.Sequences.{Takes, Forward, Packs}
 use Rattle.astrephon.proofs.Sequences.{Gathered, Scattered, Gathers, Scatters}
 use Rattle.astrephon.proofs.Accepting.{gather-does, scatter-does, scatter-absent}
-use Rattle.astrephon.proofs.Trays.{layout-length, past-none, shared-out}
+use Rattle.astrephon.proofs.Trays.{elements-length, past-none, shared-out}
 
 module _ {xs : List ℕ} {a b : ℕ} (X : Takes xs a) (W : Forward a b) (packs : ℕ → List ℕ) (long : Packs xs packs a b) (file : List ℕ) (whole : length file ≡ b - a) where
   abbrev r : Reading
@@ -80,5 +80,5 @@ module _ {xs : List ℕ} {a b : ℕ} (X : Takes xs a) (W : Forward a b) (packs :
       → Scatters xs packs elements a b file held last → last ≡ file
   scatters-rebuild elements each held last l made =
       scatters-leave elements held last l made
-      ∙ scattered-all (elementsRead r) a (b - a) f (shared-out X (b - a)) elements (λ e h. each e (omega (arith, layout-length r))) held l
+      ∙ scattered-all (elementsRead r) a (b - a) f (shared-out X (b - a)) elements (λ e h. each e (omega (arith, elements-length r))) held l
       ∙ tabulated-whole a (b - a) file whole

@@ -11,7 +11,7 @@ use Rattle.sheets.specs.Sheet.{readSheet}
 use Rattle.sheets.proofs.Numbered.{listed}
 use Rattle.openings.specs.declared.Refusal.{Refusal}
 use Rattle.openings.specs.Said.{Said, done}
-use Rattle.openings.specs.Refusals.{FAR, FOREIGN, BUFFER, unlessSheets, unlessFault}
+use Rattle.openings.specs.Refusals.{FAR, FOREIGN, BUFFER, unlessSheets}
 use Rattle.openings.specs.Table.{OfTable}
 use Rattle.openings.specs.Offsets.{LIMIT, offsetsOf, placeOf, elementTest, pairTests, offsetTests, intervalTests, windowTests, bothFrom, unlessElement, unlessWindow, unlessElements}
 use Rattle.openings.specs.Buffers.{packedLength, bufferTests, unlessBuffers, trayTests, unlessTrays}

@@ -2,7 +2,7 @@
 use mathlib.Core.Path.{_≡_, refl, sym, ap, ap₂, _∙_}
 use mathlib.Core.Bool.{Bool}
 use mathlib.Core.List.{List, [], _∷_}
-use Prim.Native.Nat.{ℕ, _*_, _≤_, _<_, max}
+use Prim.Native.Nat.{ℕ, _≤_, _<_}
 use native.Mathlib.Omega.{arith}
 use lib.ListN.{length}
 use Rattle.counting.specs.Count.{countBelow, stretch}
@@ -20,7 +20,7 @@ use Rattle.sheets.specs.Sheet.{siblingsFrom, forestFrom, elementsFrom, elements
 use Rattle.sheets.specs.Pattern.{sizes, firstUneven}
 use Rattle.sheets.specs.Encode.{familyBytes, forestBytes, elementBytes, elementsBytes, encode}
 use Rattle.openings.specs.Said.{Said, done, Outcome, writing}
-use Rattle.openings.specs.Offsets.{LIMIT, offsetsOf, windowTests, unlessWindows}
+use Rattle.openings.specs.Offsets.{LIMIT, offsetsOf, windowTests, bothFrom, unlessWindows}
 use Rattle.openings.proofs.Orders.{fault-passed}
 use Rattle.openings.proofs.PairOpens.{elements-on}
 use Rattle.openings.proofs.Faults.{range-fine}
@@ -84,7 +84,7 @@ pub no-fault-read : (Fs : List Forest) → accepted 0 Fs .number ≡ 0
 unfolding accepted
 no-fault-read Fs = refl
 
-from-zero : (Fs Gs : List Forest) (b : ℕ) → b ≤ LIMIT → 0 ≡ firstFault (windowTests (max (accepted 0 Fs .layout .displacement) (accepted 0 Gs .layout .displacement)) 0 b)
+from-zero : (Fs Gs : List Forest) (b : ℕ) → b ≤ LIMIT → 0 ≡ firstFault (windowTests (bothFrom (accepted 0 Fs) (accepted 0 Gs)) 0 b)
 unfolding accepted layoutOf
 from-zero Fs Gs b near = range-fine LIMIT 0 0 b (omega arith) (omega arith) near
 

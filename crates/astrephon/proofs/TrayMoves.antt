@@ -1,7 +1,7 @@
 -- The calls between trays, case by case: both sheets were opened, then the indexes of a pair, the window and the trays are checked. Assumes nothing.
 use mathlib.Core.Path.{_≡_, refl, ap, ap₂, _∙_}
 use mathlib.Core.List.{List, []}
-use Prim.Native.Nat.{ℕ, _-_, _≤_, max}
+use Prim.Native.Nat.{ℕ, _-_, _≤_}
 use native.Mathlib.Omega.{arith}
 use lib.ListN.{length}
 use Rattle.counting.specs.Elements.{Elements}
@@ -27,9 +27,9 @@ use Rattle.openings.proofs.PairOpens.{both-accepted}
 use Rattle.trays.specs.Parts.{Lengths, Starts}
 use Rattle.astrephon.specs.Moves.{elementsRead, moveOf, pairMoveOf}
 
-layout-is : (r : Reading) → elementsOf (r .layout) (r .size) ≡ elementsRead r
+elements-are : (r : Reading) → elementsOf (r .layout) (r .size) ≡ elementsRead r
 unfolding elementsOf offsetsOf
-layout-is r = refl
+elements-are r = refl
 
 -- what the engine asks of an accepted sheet
 starts : (xs : List ℕ) (r : Reading) → r ≡ readSheet xs → readSheet xs .number ≡ 0 → (w : Window) → r .layout .displacement ≤ w .start .0 → w .start .0 ≤ w .end .0 → w .end .0 ≤ LIMIT
@@ -46,10 +46,10 @@ module _ (xs ys : List ℕ) {o : Sheets} (S : OpensSheets (readSheet xs) (readSh
 
   -- the engine's elements are the sheets'
   one-is : elementsOf (o .one .layout) (o .one .size) ≡ elementsRead r1
-  one-is = layout-is (o .one) ∙ ap elementsRead (S .one)
+  one-is = elements-are (o .one) ∙ ap elementsRead (S .one)
 
   two-is : elementsOf (o .two .layout) (o .two .size) ≡ elementsRead r2
-  two-is = layout-is (o .two) ∙ ap elementsRead (S .two)
+  two-is = elements-are (o .two) ∙ ap elementsRead (S .two)
 
   -- ---- a sheet is refused
   module _ (d : o .refusal .number ≡ 0 → ⊥) where
@@ -70,7 +70,7 @@ module _ (xs ys : List ℕ) {o : Sheets} (S : OpensSheets (readSheet xs) (readSh
     indexes-are i j m k = k ∙ ap₂ (λ (r s : Reading). firstFault (pairTests (r .layout .elements) i (s .layout .elements) j)) (S .one) (S .two)
 
     -- ---- from is the larger displacement, and n what refuses the window or a tray
-    module _ (from n : ℕ) (larger : from ≡ max (o .one .layout .displacement) (o .two .layout .displacement))
+    module _ (from n : ℕ) (larger : from ≡ bothFrom (o .one) (o .two))
         (e : n ≡ firstFault (trayTests from a b (length t) (length held))) where
       tests-are : n ≡ firstFault (trayTests (bothFrom r1 r2) a b (length t) (length held))
       tests-are =

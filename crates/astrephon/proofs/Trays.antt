@@ -19,16 +19,16 @@ use Rattle.openings.specs.Offsets.{offsetsOf}
 use Rattle.astrephon.specs.Moves.{elementsRead}
 use Rattle.astrephon.specs.Sequences.{Takes}
 
-layout-map : (r : Reading) → map (owns (r .layout .displacement) (r .size)) (selections 4 (r .layout)) ≡ elementsRead r
+pub elements-map : (r : Reading) → map (owns (r .layout .displacement) (r .size)) (selections 4 (r .layout)) ≡ elementsRead r
 unfolding offsetsOf selections
-layout-map r = tabulated-map (owns (r .layout .displacement) (r .size)) 0 (r .layout .elements) (λ e. has (treeOf 4 (r .layout) e))
+elements-map r = tabulated-map (owns (r .layout .displacement) (r .size)) 0 (r .layout .elements) (λ e. has (treeOf 4 (r .layout) e))
 
-pub layout-length : (r : Reading) → length (elementsRead r) ≡ r .layout .elements
-layout-length r = length-tabulated 0 (r .layout .elements) (offsetsOf r)
+pub elements-length : (r : Reading) → length (elementsRead r) ≡ r .layout .elements
+elements-length r = length-tabulated 0 (r .layout .elements) (offsetsOf r)
 
 -- past the last element nothing passes
 pub past-none : (xs : List ℕ) (i : ℕ) → readSheet xs .layout .elements ≤ i → (x : ℕ) → element (elementsRead (readSheet xs)) i x ≡ false
-past-none xs i h x = ap (λ (p : ℕ → Bool). p x) (List·getD-eq-default (elementsRead (readSheet xs)) (λ _. false) {n = i} (omega (arith, layout-length (readSheet xs))))
+past-none xs i h x = ap (λ (p : ℕ → Bool). p x) (List·getD-eq-default (elementsRead (readSheet xs)) (λ _. false) {n = i} (omega (arith, elements-length (readSheet xs))))
 
 module _ {xs : List ℕ} {a : ℕ} (X : Takes xs a) where
   abbrev L : Elements
@@ -37,7 +37,7 @@ module _ {xs : List ℕ} {a : ℕ} (X : Takes xs a) where
   -- the elements share every window out that starts in the sheet
   pub shared-out : (n : ℕ) → Partition L a n
   shared-out n x h k =
-      ap (λ (M : Elements). times M x) (sym (layout-map (readSheet xs))) ∙ accepted-law xs (X .fine) .file x (omega (arith, X .after))
+      ap (λ (M : Elements). times M x) (sym (elements-map (readSheet xs))) ∙ accepted-law xs (X .fine) .file x (omega (arith, X .after))
 
   module _ (n : ℕ) where
     -- the byte of an offset stands at its place, and the tray is as long as the window

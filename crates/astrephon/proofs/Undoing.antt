@@ -7,15 +7,10 @@ use Prim.Native.Nat.{ℕ, _-_, _≤_, _<_}
 use native.Mathlib.Omega.{arith}
 use lib.Dec.{leb}
 use borrow.Author.Tests.{leb-false, not-false}
-use Rattle.counting.specs.Gather.{tabulated}
 use Rattle.counting.specs.Elements.{Elements}
-use Rattle.counting.specs.Periodic.{owns}
-use Rattle.counting.proofs.Gathers.{tabulated-map}
 use Rattle.counting.proofs.Nths.{nth-found, nth-exactly}
 use Rattle.families.specs.declared.FileOffset.{FileOffset}
 use Rattle.families.specs.declared.SubfileOffset.{SubfileOffset}
-use Rattle.families.specs.Forest.{has}
-use Rattle.families.specs.Decoded.{treeOf, selections}
 use Rattle.sheets.specs.declared.Reading.{Reading}
 use Rattle.sheets.specs.Refusals.{_when_}
 use Rattle.sheets.specs.Sheet.{readSheet}
@@ -34,9 +29,11 @@ use Rattle.astrephon.specs.declared.Mapped.the-variants as mapped
 use Rattle.astrephon.specs.declared.Located.{Located}
 use Rattle.astrephon.specs.declared.Located.the-variants as located
 use Rattle.astrephon.specs.Maps.{exactOf, nextOf, inverseOf, exactCall, inverseCall}
+use Rattle.astrephon.specs.Moves.{elementsRead}
 use Rattle.astrephon.proofs.Contracts.{Made, Exact, Next, Inverse}
 use Rattle.astrephon.proofs.Saying.{mapped-same, located-same}
 use Rattle.astrephon.proofs.Mappings.{exact-byte, inverse-own}
+use Rattle.astrephon.proofs.Trays.{elements-map}
 
 -- ---- where a call did its work the sheet is accepted and has the element
 record Answered (r : Reading) (e : ℕ) : Type 0 where
@@ -101,9 +98,5 @@ module _ (xs : List ℕ) (e : ℕ) where
         mapped-same r (mapped.At y) (q ∙ sym (exact-byte (readSheet xs) e (S .0 .fine) (S .0 .there) z (y .0) (own, B .1 ∙ S .1) near))
 
 -- ---- THE RANKS of x in all elements of an accepted sheet sum to what lies between the displacement and x
-pub ranks-share : (xs : List ℕ) (x : ℕ) → let r = readSheet xs in r .number ≡ 0 → ranks (tabulated 0 (r .layout .elements) (offsetsOf r)) x ≡ x - r .layout .displacement
-unfolding offsetsOf selections
-ranks-share xs x fine =
-    let r = readSheet xs in
-    ap (λ (L : Elements). ranks L x) (sym (tabulated-map (owns (r .layout .displacement) (r .size)) 0 (r .layout .elements) (λ e. has (treeOf 4 (r .layout) e))))
-    ∙ ranks-sum r (accepted-law xs fine) x
+pub ranks-share : (xs : List ℕ) (x : ℕ) → let r = readSheet xs in r .number ≡ 0 → ranks (elementsRead r) x ≡ x - r .layout .displacement
+ranks-share xs x fine = ap (λ (L : Elements). ranks L x) (sym (elements-map (readSheet xs))) ∙ ranks-sum (readSheet xs) (accepted-law xs fine) x

@@ -5,7 +5,7 @@ use Prim.Native.Nat.{ℕ, _+_, _-_, _<_}
 use lib.ListN.{length, getD}
 use Rattle.counting.specs.Count.{countIn}
 use Rattle.counting.specs.Gather.{gathered, scattered}
-use Rattle.counting.specs.Elements.{Elements, element, Partition}
+use Rattle.counting.specs.Elements.{Elements, element}
 
 -- how many numbers of the window the elements have together
 unfoldable pub counts : Elements → (a n : ℕ) → ℕ

@@ -78,16 +78,16 @@ pub record Layout·ok (levels bound : ℕ) (t : Layout) : Type 0 where
   pub ruled : (e : ℕ) → e < t .elements → WF 0 bound (treeOf levels t e)
 
 -- ---- the families' numbers in a row, six a family, so that they can be lent. n stands last: a family that has a segment stands whole
--- a row has room for 256 families, and a row of zeros holds none
-abbrev pub ROW : ℕ
-ROW = 1536
-
-abbrev pub emptyRow : List ℕ
-emptyRow = replicate ROW 0
-
 unfoldable pub rowOf : List Family → List ℕ
 rowOf [] = []
 rowOf (f ∷ fs) = f .children ∷ f .span ∷ f .l ∷ f .r ∷ f .s ∷ f .n ∷ rowOf fs
+
+-- a row has room for 256 families, and a row of zeros holds none
+abbrev pub ROW : ℕ
+ROW = 6 * 256
+
+abbrev pub emptyRow : List ℕ
+emptyRow = replicate ROW 0
 
 abbrev pub familyAt : List ℕ → ℕ → Family
 familyAt row i =

@@ -44,9 +44,9 @@ refusalLine number place flag = (word "refused " ++ decimal number) ++ ((word " 
 unfoldable pub acceptedLines : (size : ℕ) → Layout → List ℕ
 acceptedLines size t = layoutLine (t .displacement) size (t .elements) ++ elementLines t (t .elements)
 
+unfoldable pub listing : Reading → List ℕ
+listing r = cond (eqb (r .number) 0) (acceptedLines (r .size) (r .layout)) (refusalLine (r .number) (r .place) (r .flag))
+
 -- no listing is longer: at most 97 bytes for the layout's line, and 104 for each of 16 elements
 abbrev pub LONGEST-LISTING : ℕ
 LONGEST-LISTING = 97 + 16 * 104
-
-unfoldable pub listing : Reading → List ℕ
-listing r = cond (eqb (r .number) 0) (acceptedLines (r .size) (r .layout)) (refusalLine (r .number) (r .place) (r .flag))

@@ -1,7 +1,7 @@
 -- Opening two sheets, and an element of each: what the code gives in each case, and what a call knows of what was opened. Assumes nothing.
 use mathlib.Core.Path.{_≡_, refl, sym, ap, ap₂, _∙_}
 use mathlib.Core.List.{List, []}
-use Prim.Native.Nat.{ℕ, _≤_, _<_, max}
+use Prim.Native.Nat.{ℕ, _≤_, _<_}
 use native.Mathlib.Omega.{arith}
 use Rattle.families.specs.Decoded.{rowOf, Layout·ok}
 use Rattle.sheets.specs.declared.Reading.{Reading}
@@ -14,7 +14,7 @@ use Rattle.openings.specs.declared.Pair.{Pair}
 use Rattle.openings.specs.declared.Sheets.{Sheets}
 use Rattle.openings.specs.Said.{Said, done}
 use Rattle.openings.specs.Refusals.{sheetRefusal, callRefusal, unlessSheet, unlessSheets, unlessFault}
-use Rattle.openings.specs.Offsets.{LIMIT, pairTests, windowTests, unlessElements}
+use Rattle.openings.specs.Offsets.{LIMIT, pairTests, windowTests, bothFrom, unlessElements}
 use Rattle.openings.specs.Openings.{Verdict, OpensPair, OpensSheets}
 use Rattle.openings.proofs.Orders.{sheet-passed, fault-passed, sheet-through, fault-through}
 use Rattle.openings.proofs.Verdicts.{sheet-verdict, fault-verdict, no-verdict, verdict-none, still, after}
@@ -67,7 +67,7 @@ module _ (r1 r2 : Reading) (i j a b : ℕ) (o : Sheets) (S : OpensSheets r1 r2 o
   indexes = unlessFault (pairTests (r1 .layout .elements) i (r2 .layout .elements) j)
 
   abbrev window : Said → Said
-  window = unlessFault (windowTests (max (r1 .layout .displacement) (r2 .layout .displacement)) a b)
+  window = unlessFault (windowTests (bothFrom r1 r2) a b)
 
   closed-pair : (f : Refusal) → Verdict (λ next. unlessSheets r1 r2 (indexes (window next))) f → (f .number ≡ 0 → ⊥) → (p : Pair) → p .refusal ≡ f → (row1 row2 : List ℕ)
       → OpensPair r1 r2 i j a b p row1 row2
@@ -90,16 +90,16 @@ module _ (r1 r2 : Reading) (i j a b : ℕ) (o : Sheets) (S : OpensSheets r1 r2 o
         let refuses : f .number ≡ 0 → ⊥ = λ y. d (sym (ap (λ (g : Refusal). g .number) q) ∙ y) in
         closed-pair f (after (S .verdict) (λ next. indexes (window next)) z (still (index f q) window refuses)) refuses p is row1 row2
 
-    pub pair-opened : m ≡ 0 → (from n : ℕ) → from ≡ max (o .one .layout .displacement) (o .two .layout .displacement) → n ≡ firstFault (windowTests from a b)
+    pub pair-opened : m ≡ 0 → (from n : ℕ) → from ≡ bothFrom (o .one) (o .two) → n ≡ firstFault (windowTests from a b)
         → (f : Refusal) → f ≡ callRefusal n 0 → (s1 s2 : Selection) → s1 ≡ selectionOf (o .one .layout) (o .one .size) i → s2 ≡ selectionOf (o .two .layout) (o .two .size) j
         → (row1 row2 : List ℕ) → row1 ≡ rowOf (o .one .layout .family) → row2 ≡ rowOf (o .two .layout .family)
         → OpensPair r1 r2 i j a b (record { refusal = f; one = s1; two = s2 }) row1 row2
     pair-opened none from n larger e f q s1 s2 sel1 sel2 row1 row2 laid1 laid2 =
-        let tests = windowTests (max (r1 .layout .displacement) (r2 .layout .displacement)) a b in
+        let tests = windowTests (bothFrom r1 r2) a b in
         let is : n ≡ firstFault tests =
         e
         ∙ ap (λ (d : ℕ). firstFault (windowTests d a b)) larger
-        ∙ ap₂ (λ (s t : Reading). firstFault (windowTests (max (s .layout .displacement) (t .layout .displacement)) a b)) (S .one) (S .two) in
+        ∙ ap₂ (λ (s t : Reading). firstFault (windowTests (bothFrom s t) a b)) (S .one) (S .two) in
         record {
           verdict = after (S .verdict) (λ next. indexes (window next)) z (after (index (callRefusal m 0) refl) window none (fault-verdict tests n is f q));
           one = λ _. record { selection = sel1 ∙ ap (λ (s : Reading). selectionOf (s .layout) (s .size) i) (S .one); laid = laid1 ∙ ap (λ (s : Reading). rowOf (s .layout .family)) (S .one) };
@@ -134,7 +134,7 @@ pub paired : (xs ys : List ℕ) (i j a b : ℕ) {o : Pair} {row1 row2 : List ℕ
 paired xs ys i j a b O z =
     let r1 = readSheet xs in
     let r2 = readSheet ys in
-    let d = max (r1 .layout .displacement) (r2 .layout .displacement) in
+    let d = bothFrom r1 r2 in
     let P = elements-through r1 r2 i j (sym (verdict-none (O .verdict) z (done []))) in
     let one = chosen-known xs i (O .one z) (P .0) (P .2) in
     let two = chosen-known ys j (O .two z) (P .1) (P .3) in

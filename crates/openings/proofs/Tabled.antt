@@ -13,7 +13,7 @@ use Rattle.sheets.specs.Sheet.{readSheet}
 use Rattle.sheets.proofs.Numbered.{listed, first-listed, RefusedReading, reading-numbered}
 use Rattle.openings.specs.Said.{Said, done}
 use Rattle.openings.specs.Refusals.{ROOM, unlessSheet, unlessFault}
-use Rattle.openings.specs.Table.{Row, recordRow, unevenRow, callRow, callNumbers, table, ofRow, ofRows, OfTable}
+use Rattle.openings.specs.Table.{Row, sheetsGiven, recordRow, unevenRow, callRow, callNumbers, table, ofRow, ofRows, OfTable}
 
 -- ---- a refusal of some rows is of more rows too
 module _ (number sheet place flag : ℕ) where
@@ -41,18 +41,18 @@ module _ (number sheet place flag : ℕ) where
       (λ other. rw (of-numbers row own numbers (rw other at e)) (or-true (ofRow (row n) number sheet place flag)))
 
 -- ---- each kind of row
-record-of : (number sheet place : ℕ) → oneOf number recordNumbers ≡ true → oneOf sheet (1 ∷ 2 ∷ []) ≡ true → ofRows table number sheet place NO-FLAG ≡ true
+record-of : (number sheet place : ℕ) → oneOf number recordNumbers ≡ true → oneOf sheet sheetsGiven ≡ true → ofRows table number sheet place NO-FLAG ≡ true
 unfolding oneOf
 record-of number sheet place e k =
     of-front number sheet place NO-FLAG (map recordRow recordNumbers ++ (unevenRow ∷ [])) _
     (of-front number sheet place NO-FLAG (map recordRow recordNumbers) _
     (of-numbers number sheet place NO-FLAG recordRow (rw (eq-eqb number number refl, k) refl) recordNumbers e))
 
-uneven-own : (sheet place flag : ℕ) → oneOf sheet (1 ∷ 2 ∷ []) ≡ true → oneOf flag (HOLE ∷ OVERLAP ∷ []) ≡ true → ofRows (unevenRow ∷ []) HOLE-OR-OVERLAP sheet place flag ≡ true
+uneven-own : (sheet place flag : ℕ) → oneOf sheet sheetsGiven ≡ true → oneOf flag (HOLE ∷ OVERLAP ∷ []) ≡ true → ofRows (unevenRow ∷ []) HOLE-OR-OVERLAP sheet place flag ≡ true
 unfolding ofRows
 uneven-own sheet place flag k f = rw (k, f) refl
 
-uneven-of : (sheet place flag : ℕ) → oneOf sheet (1 ∷ 2 ∷ []) ≡ true → oneOf flag (HOLE ∷ OVERLAP ∷ []) ≡ true → ofRows table HOLE-OR-OVERLAP sheet place flag ≡ true
+uneven-of : (sheet place flag : ℕ) → oneOf sheet sheetsGiven ≡ true → oneOf flag (HOLE ∷ OVERLAP ∷ []) ≡ true → ofRows table HOLE-OR-OVERLAP sheet place flag ≡ true
 uneven-of sheet place flag k f =
     of-front HOLE-OR-OVERLAP sheet place flag (map recordRow recordNumbers ++ (unevenRow ∷ [])) _
     (of-back HOLE-OR-OVERLAP sheet place flag (map recordRow recordNumbers) (unevenRow ∷ []) (uneven-own sheet place flag k f))
@@ -73,14 +73,14 @@ pub done-tabled : (values : List ℕ) → OfTable (done values)
 unfolding OfTable
 done-tabled values = tt
 
-refused-reading : (r : Reading) (sheet : ℕ) → oneOf sheet (1 ∷ 2 ∷ []) ≡ true → RefusedReading r → ofRows table (r .number) sheet (r .place) (r .flag) ≡ true
+refused-reading : (r : Reading) (sheet : ℕ) → oneOf sheet sheetsGiven ≡ true → RefusedReading r → ofRows table (r .number) sheet (r .place) (r .flag) ≡ true
 unfolding oneOf
 refused-reading r sheet k = ⊎-elim
     (λ named. rw (named .1) (record-of (r .number) sheet (r .place) (named .0) k))
     (λ uneven. rw (uneven .0) (⊎-elim (λ hole. rw hole (uneven-of sheet (r .place) HOLE k refl)) (λ overlap. rw overlap (uneven-of sheet (r .place) OVERLAP k refl)) (uneven .1)))
 
 module _ (next : Said) (h : OfTable next) where
-  pub sheet-tabled : (xs : List ℕ) (k : ℕ) → oneOf k (1 ∷ 2 ∷ []) ≡ true → OfTable (unlessSheet k (readSheet xs) next)
+  pub sheet-tabled : (xs : List ℕ) (k : ℕ) → oneOf k sheetsGiven ≡ true → OfTable (unlessSheet k (readSheet xs) next)
   unfolding unlessSheet OfTable
   sheet-tabled xs k which =
       let r = readSheet xs in

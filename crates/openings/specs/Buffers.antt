@@ -21,7 +21,7 @@ bufferTests one due1 two due2 = (BUFFER when not (eqb one due1)) ∷ (BUFFER whe
 abbrev pub unlessBuffers : Reading → (e a b file packed : ℕ) → (next : Said) → Said
 unlessBuffers r e a b file packed next = unlessWindow r e a b (unlessFault (bufferTests file (b - a) packed (packedLength r e a b)) next)
 
--- a window that starts at d or after it, and the lengths of two trays of it; d is where both of two sheets have started
+-- a window that starts at d or later, and the lengths of two trays of it; and such a window of two sheets
 abbrev pub trayTests : (d a b one two : ℕ) → List Test
 trayTests d a b one two = windowTests d a b ++ bufferTests one (b - a) two (b - a)
 

@@ -15,12 +15,16 @@ pub record Row : Type 0 where
   pub placed : Bool
   pub flags : List ℕ
 
+-- a call has one sheet or two
+abbrev pub sheetsGiven : List ℕ
+sheetsGiven = 1 ∷ 2 ∷ []
+
 -- the numbers that refuse a sheet at a place in it; number 11; those that refuse what else a call is given; and ROOM, whose place is how many runs there are
 abbrev pub recordRow : (number : ℕ) → Row
-recordRow number = record { number = number; sheets = 1 ∷ 2 ∷ []; placed = true; flags = NO-FLAG ∷ [] }
+recordRow number = record { number = number; sheets = sheetsGiven; placed = true; flags = NO-FLAG ∷ [] }
 
 abbrev pub unevenRow : Row
-unevenRow = record { number = HOLE-OR-OVERLAP; sheets = 1 ∷ 2 ∷ []; placed = true; flags = HOLE ∷ OVERLAP ∷ [] }
+unevenRow = record { number = HOLE-OR-OVERLAP; sheets = sheetsGiven; placed = true; flags = HOLE ∷ OVERLAP ∷ [] }
 
 abbrev pub callRow : (number : ℕ) → Row
 callRow number = record { number = number; sheets = 0 ∷ []; placed = false; flags = NO-FLAG ∷ [] }

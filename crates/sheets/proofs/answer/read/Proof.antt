@@ -1,7 +1,6 @@
 -- `read` meets its contract: what was read is the layout of the sheet's elements, and that is judged. Assumes nothing.
 use native.Mathlib.Omega.{arith}
 use mathlib.Core.Path.{_≡_, refl, sym, _∙_}
-use Prim.Native.Nat.{_-_}
 use Rattle.sheets.specs.Sheet.{elementsOf}
 use Rattle.sheets.specs.Steps.{start, WrittenAll}
 use Rattle.sheets.specs.Refusals.{got}

@@ -1,7 +1,6 @@
 -- `read_records` meets its contract. Assumes nothing.
 use mathlib.Core.Path.{_≡_, refl}
 use native.Mathlib.Omega.{arith}
-use Prim.Native.Nat.{_-_}
 use Rattle.sheets.specs.Bytes.{le16}
 use Rattle.sheets.specs.Records.{fault}
 use Rattle.sheets.specs.Sheet.{top, elementsFrom}
