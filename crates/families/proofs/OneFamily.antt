@@ -1,12 +1,14 @@
 -- The ways out of the functions that look at one family. Assumes nothing.
 use mathlib.Core.Path.{_≡_, refl, sym, ap, ap₂, _∙_}
-use mathlib.Core.Bool.{true, false}
-use Prim.Native.Nat.{ℕ, _+_, _-_, _*_, _/_, _%_, _≤_, _<_}
-use native.Mathlib.Nat.{div-zero, mod-zero, min-eq-left, min-eq-right}
+use mathlib.Core.Bool.{true, false, cond}
+use mathlib.Core.Logic.{⊎-elim}
+use Prim.Native.Nat.{ℕ, suc, _+_, _-_, _*_, _/_, _%_, _^_, _≤_, _<_, min}
+use native.Mathlib.Nat.{div-zero, mod-zero, suc-mul, mul-le-mul-right, min-eq-left, min-eq-right}
 use native.Mathlib.Omega.{arith}
-use lib.Dec.{leb}
+use lib.Dec.{leb, ltb}
 use borrow.Author.Tests.{le-leb, lt-leb, lt-ltb, le-ltb}
 use Rattle.counting.specs.Count.{countBelow}
+use Rattle.counting.proofs.Cases.{lt-or-le}
 use Rattle.counting.proofs.Counts.{count-all}
 use Rattle.families.specs.Forest.{inSegments, Stride}
 use Rattle.families.proofs.Division.{leaf-div, whole, part, segments-count}
@@ -57,9 +59,24 @@ module _ (l s n x u q : ℕ) (e : u ≡ x - l) (f : q ≡ u / s) where
 pub rank-is : (v w m each part : ℕ) → v ≡ w → w ≡ m → v * each + part ≡ m * each + part
 rank-is v w m each part e f = ap (λ (z : ℕ). z * each + part) (e ∙ f)
 
--- `leaf_rank`: without children every byte of a segment counts
-pub leaf-rank-is : (l r s n x each v w : ℕ) → Stride l r s n → each ≡ r - l + 1 → w ≡ v → v ≡ part l r s n x
-    → whole l s n x * each + w ≡ countBelow (inSegments (λ _. true) l r s n) x
-leaf-rank-is l r s n x each v w st e f g =
-    sym (segments-count (λ _. true) l r s n x st
-    ∙ ap₂ (λ (c d : ℕ). whole l s n x * c + d) (count-all _ _ (λ _ _. refl) ∙ sym e) (count-all _ _ (λ _ _. refl) ∙ sym (f ∙ g)))
+-- `leaf_rank`: what it multiplies and adds fits
+pub sum-fits : (k len w : ℕ) → k < 2 ^ 32 → len ≤ 2 ^ 32 → w < 2 ^ 32 → k * len + w < 2 ^ 64
+sum-fits k len w h m j = omega (arith, mul-le-mul-right {m = k} {n = 2 ^ 32 - 1} len (omega arith))
+
+-- the two caps leave whole segments and a part of the next one
+caps : (q w n len : ℕ) → min (q * len + min w len) (n * len) ≡ min q n * len + cond (ltb q n) (min w len) 0
+caps q w n len = ⊎-elim
+    (λ h. rw (lt-ltb q n h, min-eq-left {n = q} {m = n} (omega arith)) (omega (arith, suc-mul q len, mul-le-mul-right {m = suc q} {n = n} len h)))
+    (λ h. rw (le-ltb q n h, min-eq-right {n = n} {m = q} h) (omega (arith, mul-le-mul-right {m = n} {n = q} len h)))
+    (lt-or-le q n)
+
+-- without children every byte of a segment counts
+leaf-count : (l r s n x : ℕ) → Stride l r s n → countBelow (inSegments (λ _. true) l r s n) x ≡ whole l s n x * (r - l + 1) + part l r s n x
+leaf-count l r s n x st =
+    segments-count (λ _. true) l r s n x st
+    ∙ ap₂ (λ (c d : ℕ). whole l s n x * c + d) (count-all _ _ (λ _ _. refl)) (count-all _ _ (λ _ _. refl))
+
+-- u, q, w, len and m are what the steps before the caps answer
+pub leaf-rank-is : (l r s n x u q w len m : ℕ) → Stride l r s n → u ≡ x - l → q ≡ u / s → w ≡ u % s → len ≡ r - l + 1 → m ≡ n
+    → min (q * len + min w len) (m * len) ≡ countBelow (inSegments (λ _. true) l r s n) x
+leaf-rank-is l r s n x u q w len m st e f g h k = rw (f, g, e, h, k) (caps _ _ _ _ ∙ sym (leaf-count l r s n x st))

@@ -134,12 +134,32 @@ pub fn counted_before(f: Family, x: u32, each: u64, part: u64) -> u64
     wide(whole_before(f, x)) * each + part
 }
 
-// How many bytes below x a family without children selects.
+// How many bytes below x a family without children selects. Document 000, section 6.1, MAP-AUX_f, line 2, is
+// (x div s_f)(r_f - l_f + 1) + x mod s_f; a comment says where the page is mended.
 pub fn leaf_rank(f: Family, x: u32) -> u64
     requires { ⌜ FitsIn (2 ^ 32 - 1) f ⌝ }
     ensures { λ r. ⌜ r ≡ countBelow (leafOf f) x ⌝ }
 {
-    counted_before(f, x, segment_len(f), wide(part_before(f, x)))
+    // x - l_f, which MAP-AUX_S hands on. Mended: 0 where l_f is past x, and so the rank
+    let x = past(x, f.l);
+    // r_f - l_f + 1, in section 6.2 LEN_f
+    let len = segment_len(f);
+    // the segment number, x div s_f. Mended: with n_f = 1, s_f is 0 and not divided by, and the number is 0
+    let segment = wide(quotient(x, f.s));
+    // the place in the segment, x mod s_f. Mended: with n_f = 1 it is x
+    let mut place = wide(remainder(x, f.s));
+    // the cap at the segment's length. Mended: the page counts the gap after a segment too
+    if len < place {
+        place = len;
+    }
+    // line 2: the segments before this one, and the place in it
+    let rank = segment * len + place;
+    // the cap at n segments, SIZE_f of section 4.6. Mended: the page counts on behind the last segment
+    let size = wide(f.n) * len;
+    if size < rank {
+        return size;
+    }
+    rank
 }
 
 // What f counts in all, where a segment counts `each`.
