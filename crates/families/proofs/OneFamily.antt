@@ -76,7 +76,7 @@ leaf-count l r s n x st =
     segments-count (λ _. true) l r s n x st
     ∙ ap₂ (λ (c d : ℕ). whole l s n x * c + d) (count-all _ _ (λ _ _. refl)) (count-all _ _ (λ _ _. refl))
 
--- u, q, w, len and m are what the steps before the caps answer
-pub leaf-rank-is : (l r s n x u q w len m : ℕ) → Stride l r s n → u ≡ x - l → q ≡ u / s → w ≡ u % s → len ≡ r - l + 1 → m ≡ n
-    → min (q * len + min w len) (m * len) ≡ countBelow (inSegments (λ _. true) l r s n) x
-leaf-rank-is l r s n x u q w len m st e f g h k = rw (f, g, e, h, k) (caps _ _ _ _ ∙ sym (leaf-count l r s n x st))
+-- u, last, q, w and m are what the steps before the caps answer
+pub leaf-rank-is : (l r s n x u last q w m : ℕ) → Stride l r s n → u ≡ x - l → last ≡ r - l → q ≡ u / s → w ≡ u % s → m ≡ n
+    → min (q * (last + 1) + min w (last + 1)) (m * (last + 1)) ≡ countBelow (inSegments (λ _. true) l r s n) x
+leaf-rank-is l r s n x u last q w m st e f g h k = rw (g, h, e, f, k) (caps _ _ _ _ ∙ sym (leaf-count l r s n x st))

@@ -140,10 +140,10 @@ pub fn leaf_rank(f: Family, x: u32) -> u64
     requires { ⌜ FitsIn (2 ^ 32 - 1) f ⌝ }
     ensures { λ r. ⌜ r ≡ countBelow (leafOf f) x ⌝ }
 {
-    // x - l_f, which MAP-AUX_S hands on. Mended: 0 where l_f is past x, and so the rank
+    // x - l_f, which MAP-AUX_S hands on. Mended: where l_f is past x it is 0, and the rank comes to 0
     let x = past(x, f.l);
     // r_f - l_f + 1, in section 6.2 LEN_f
-    let len = segment_len(f);
+    let len = wide(f.r - f.l) + 1;
     // the segment number, x div s_f. Mended: with n_f = 1, s_f is 0 and not divided by, and the number is 0
     let segment = wide(quotient(x, f.s));
     // the place in the segment, x mod s_f. Mended: with n_f = 1 it is x
@@ -153,11 +153,11 @@ pub fn leaf_rank(f: Family, x: u32) -> u64
         place = len;
     }
     // line 2: the segments before this one, and the place in it
-    let rank = segment * len + place;
+    let mut rank = segment * len + place;
     // the cap at n segments, SIZE_f of section 4.6. Mended: the page counts on behind the last segment
     let size = wide(f.n) * len;
     if size < rank {
-        return size;
+        rank = size;
     }
     rank
 }
