@@ -8,7 +8,7 @@ use native.Mathlib.Omega.{arith}
 use lib.ListN.{length, getD}
 use lib.Seq.{ext-getD}
 use Rattle.counting.specs.Count.{countIn}
-use Rattle.counting.specs.Gather.{tabulated, inFile, gathered, scattered}
+use Rattle.counting.specs.Gather.{tabulated, inFile, gathered, scatteredByte, scattered}
 use Rattle.counting.specs.Elements.{Elements, element, times, firstOf, Partition}
 use Rattle.counting.specs.Trays.{scatteredAll, EachElement}
 use Rattle.counting.proofs.Cases.{byTest, cond-same}
@@ -23,7 +23,7 @@ module _ (p : ℕ → Bool) (a n : ℕ) where
   length-scattered packed file = length-tabulated a n _
 
   -- the byte of x after a scatter
-  pub scattered-at : (packed file : List ℕ) (x : ℕ) → a ≤ x → x < a + n → inFile a (scattered p a n packed file) x ≡ cond (p x) (getD packed (countIn p a (x - a)) 0) (inFile a file x)
+  pub scattered-at : (packed file : List ℕ) (x : ℕ) → a ≤ x → x < a + n → inFile a (scattered p a n packed file) x ≡ scatteredByte p a packed file x
   unfolding scattered
   scattered-at packed file x h k = inFile-tabulated a n _ x h k
 

@@ -19,6 +19,10 @@ unfoldable pub gathered : (ℕ → Bool) → ℕ → ℕ → (ℕ → ℕ) → L
 gathered p a zero f = []
 gathered p a (suc n) f = cond (p a) (f a ∷ gathered p (suc a) n f) (gathered p (suc a) n f)
 
--- the file buffer of the n numbers from a on, after `packed` is put back: byte x is packed's where p x, and the old one elsewhere
+-- byte x of a file buffer that starts at a, after `packed` is put back: packed's where p x, and the old one elsewhere
+abbrev pub scatteredByte : (ℕ → Bool) → ℕ → (packed file : List ℕ) → ℕ → ℕ
+scatteredByte p a packed file x = cond (p x) (getD packed (countIn p a (x - a)) 0) (inFile a file x)
+
+-- .. and all n bytes of the buffer
 unfoldable pub scattered : (ℕ → Bool) → ℕ → ℕ → List ℕ → List ℕ → List ℕ
-scattered p a n packed file = tabulated a n (λ x. cond (p x) (getD packed (countIn p a (x - a)) 0) (inFile a file x))
+scattered p a n packed file = tabulated a n (scatteredByte p a packed file)

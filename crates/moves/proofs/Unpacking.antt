@@ -1,6 +1,6 @@
 -- The loop of `scatter_runs`: the file buffer is as it shall be up to where the walk stands, and as it was from there on. Assumes nothing.
 use mathlib.Core.Path.{_≡_, refl, sym, ap, _∙_}
-use mathlib.Core.Bool.{Bool, true, false, cond}
+use mathlib.Core.Bool.{Bool, true, false}
 use mathlib.Core.List.{List, _++_}
 use mathlib.Core.Logic.{⊎-elim}
 use Prim.Native.Nat.{ℕ, _+_, _-_, _≤_, _<_, min}
@@ -9,7 +9,7 @@ use native.Mathlib.Omega.{arith}
 use lib.ListN.{length, getD, take, drop, length-drop, List·getD-append}
 use lib.Seq.{getD-take, getD-drop, getD-append-add, length-take-le, paste, length-paste-head, length-paste}
 use Rattle.counting.specs.Count.{countIn}
-use Rattle.counting.specs.Gather.{inFile, scattered}
+use Rattle.counting.specs.Gather.{inFile, scatteredByte, scattered}
 use Rattle.counting.proofs.Cases.{lt-or-le}
 use Rattle.counting.proofs.Gathers.{tabulated-ext, tabulated-whole}
 use Rattle.maps.specs.declared.Selection.{Selection}
@@ -44,10 +44,6 @@ module _ (d l : List ℕ) (at n : ℕ) (fits : at + n ≤ length d) (held : n �
       ∙ getD-append-add (take at d ++ take n l) (drop (at + n) d) (i - (at + n)) 0
       ∙ getD-drop (at + n) d (i - (at + n)) 0
       ∙ ap (λ (j : ℕ). getD d j 0) (add-sub-of-le h)
-
--- the byte of x after the scatter
-abbrev scatteredByte : (p : ℕ → Bool) (a : ℕ) (packed file : List ℕ) → ℕ → ℕ
-scatteredByte p a packed file x = cond (p x) (getD packed (countIn p a (x - a)) 0) (inFile a file x)
 
 pub record Unpacking (s : Selection) (p : ℕ → Bool) (a n : ℕ) (packed file₀ file : List ℕ) (w : Walk) : Type 0 where
   pub stands : Stands s p a n w
