@@ -17,19 +17,19 @@ use Rattle.maps.specs.Selected.{familiesOf, belongs, Selection·ok, selectionOf
 use Rattle.maps.proofs.Chosen.{families-tree, selection-ok, accepted-pattern, belongs-tree}
 use Rattle.openings.specs.declared.Opening.{Opening}
 use Rattle.openings.specs.Said.{Said, done}
-use Rattle.openings.specs.Refusals.{ELEMENT, unlessFault}
+use Rattle.openings.specs.Refusals.{ELEMENT}
 use Rattle.openings.specs.Offsets.{LIMIT, offsetsOf, elementTest, windowTests, unlessElement, unlessWindow}
 use Rattle.openings.specs.Buffers.{packedLength, bufferTests, unlessBuffers}
 use Rattle.openings.specs.Openings.{Chosen, Opens}
 use Rattle.openings.proofs.Orders.{row-absent, sheet-passed, fault-passed, sheet-through, fault-through}
 use Rattle.openings.proofs.Verdicts.{verdict-none}
-use Rattle.openings.proofs.Faults.{range-known, buffer-known}
+use Rattle.openings.proofs.Faults.{range-fine, range-known, buffer-fine, buffer-known}
 
 -- ---- an accepted sheet: its layout meets the rules
 pub layout-rules : (xs : List ℕ) (r : Reading) → r ≡ readSheet xs → r .number ≡ 0 → Layout·ok 4 65535 (r .layout)
 layout-rules xs r read fine = rw read (accepted-law xs (ap (λ (s : Reading). s .number) (sym read) ∙ fine) .ok)
 
--- an element that is there: every call goes on; and a call that did its work had one
+-- ---- WHAT THE CHECKS LET THROUGH: where all is as they ask every call goes on, and a call that did its work had it so
 module _ (r : Reading) (e : ℕ) where
   pub element-on : (next : Said) → r .number ≡ 0 → e < r .layout .elements → next ≡ unlessElement r e next
   element-on next fine h = fault-passed next (elementTest (r .layout .elements) e ∷ []) 0 (row-absent ELEMENT _ (lt-leb _ _ h)) refl ∙ sheet-passed _ 1 r fine
@@ -39,6 +39,48 @@ module _ (r : Reading) (e : ℕ) where
       let sheet = sheet-through 1 r q in
       let element = fault-through (elementTest (r .layout .elements) e ∷ []) (sheet .1) in
       (sheet .0, omega (arith, leb-false (r .layout .elements) e (no-fault ELEMENT _ _ (omega arith) (element .0) .0)), element .1)
+
+-- a window of an element
+pub record WindowFine (r : Reading) (e a b : ℕ) : Type 0 where
+  pub fine : r .number ≡ 0
+  pub there : e < r .layout .elements
+  pub forward : a ≤ b
+  pub after : r .layout .displacement ≤ a
+  pub near : b ≤ LIMIT
+
+-- .. and two buffers of these lengths
+pub record BuffersFine (r : Reading) (e a b file packed : ℕ) : Type 0 where
+  pub window : WindowFine r e a b
+  pub file-long : file ≡ b - a
+  pub packed-long : packed ≡ packedLength r e a b
+
+module _ (r : Reading) (e a b : ℕ) where
+  abbrev d : ℕ
+  d = r .layout .displacement
+
+  window-on : WindowFine r e a b → (next : Said) → next ≡ unlessWindow r e a b next
+  window-on W next = fault-passed next _ 0 (range-fine LIMIT d a b (W .forward) (W .after) (W .near)) refl ∙ element-on r e _ (W .fine) (W .there)
+
+  pub window-through : {next : Said} {values : List ℕ} → unlessWindow r e a b next ≡ done values → WindowFine r e a b × (next ≡ done values)
+  window-through q =
+      let element = element-through r e q in
+      let window = fault-through (windowTests d a b) (element .2) in
+      let K = range-known LIMIT d a b 0 (sym (window .0)) refl in
+      (record { fine = element .0; there = element .1; forward = K .0; after = K .1; near = K .2 }, window .1)
+
+  module _ (file packed : ℕ) where
+    abbrev count : ℕ
+    count = packedLength r e a b
+
+    pub buffers-on : BuffersFine r e a b file packed → (next : Said) → next ≡ unlessBuffers r e a b file packed next
+    buffers-on B next = fault-passed next _ 0 (buffer-fine file (b - a) packed count (B .file-long) (B .packed-long)) refl ∙ window-on (B .window) _
+
+    pub buffers-through : {next : Said} {values : List ℕ} → unlessBuffers r e a b file packed next ≡ done values → BuffersFine r e a b file packed × (next ≡ done values)
+    buffers-through q =
+        let W = window-through q in
+        let buffers = fault-through (bufferTests file (b - a) packed count) (W .1) in
+        let K = buffer-known file (b - a) packed count 0 (sym (buffers .0)) refl in
+        (record { window = W .0; file-long = K .0; packed-long = K .1 }, buffers .1)
 
 -- ---- WHAT A CALL KNOWS of an element that was opened
 pub record Opened (r : Reading) (e : ℕ) (s : Selection) (row : List ℕ) : Type 0 where
@@ -76,15 +118,10 @@ chosen-known xs e C z h =
       is = rw (C .selection, C .laid) (belongs-offsets r e);
     }
 
--- ---- .. after the checks of `open_element`, and perhaps more
-module _ (xs : List ℕ) (e : ℕ) (more : Said → Said) {o : Opening} {row : List ℕ} where
-  after-element : let r = readSheet xs in Opens (λ next. unlessElement r e (more next)) r e o row → o .refusal .number ≡ 0 → Opened r e (o .selection) row × (more (done []) ≡ done [])
-  after-element O z =
-      let P = element-through (readSheet xs) e (sym (verdict-none (O .verdict) z (done []))) in
-      (chosen-known xs e (O .chosen z) (P .0) (P .1), P .2)
-
 pub opened : (xs : List ℕ) (e : ℕ) {o : Opening} {row : List ℕ} → let r = readSheet xs in Opens (unlessElement r e) r e o row → o .refusal .number ≡ 0 → Opened r e (o .selection) row
-opened xs e O z = after-element xs e (λ next. next) O z .0
+opened xs e O z =
+    let element = element-through (readSheet xs) e (sym (verdict-none (O .verdict) z (done []))) in
+    chosen-known xs e (O .chosen z) (element .0) (element .1)
 
 -- ---- WHAT A CALL KNOWS of a window that was opened
 pub record Windowed (r : Reading) (e a b : ℕ) (s : Selection) (row : List ℕ) : Type 0 where
@@ -93,20 +130,14 @@ pub record Windowed (r : Reading) (e a b : ℕ) (s : Selection) (row : List ℕ)
   pub after : s .from ≤ a
   pub near : b ≤ LIMIT
 
-module _ (xs : List ℕ) (e a b : ℕ) (more : Said → Said) {o : Opening} {row : List ℕ} where
-  after-window : let r = readSheet xs in Opens (λ next. unlessWindow r e a b (more next)) r e o row → o .refusal .number ≡ 0
-      → Windowed r e a b (o .selection) row × (more (done []) ≡ done [])
-  after-window O z =
-      let r = readSheet xs in
-      let tests = windowTests (r .layout .displacement) a b in
-      let P = after-element xs e (λ next. unlessFault tests (more next)) O z in
-      let W = fault-through tests (P .1) in
-      let K = range-known LIMIT (r .layout .displacement) a b 0 (sym (W .0)) refl in
-      (record { opened = P .0; forward = K .0; after = omega (arith, K .1, P .0 .from); near = K .2 }, W .1)
+window-known : (xs : List ℕ) {e a b : ℕ} {s : Selection} {row : List ℕ} → let r = readSheet xs in Chosen r e s row → WindowFine r e a b → Windowed r e a b s row
+window-known xs {e} C W =
+    let K = chosen-known xs e C (W .fine) (W .there) in
+    record { opened = K; forward = W .forward; after = omega (arith, W .after, K .from); near = W .near }
 
 pub windowed : (xs : List ℕ) (e a b : ℕ) {o : Opening} {row : List ℕ} → let r = readSheet xs in Opens (unlessWindow r e a b) r e o row → o .refusal .number ≡ 0
     → Windowed r e a b (o .selection) row
-windowed xs e a b O z = after-window xs e a b (λ next. next) O z .0
+windowed xs e a b O z = window-known xs (O .chosen z) (window-through (readSheet xs) e a b (sym (verdict-none (O .verdict) z (done []))) .0)
 
 -- the count of its bytes is the packed length
 pub count-is : {r : Reading} {e a b : ℕ} {s : Selection} {row : List ℕ} → Windowed r e a b s row → (c : ℕ) → c ≡ countBelow (belongs s row) b - countBelow (belongs s row) a
@@ -117,8 +148,5 @@ count-is {a} {b} W c counted = counted ∙ ap (λ (p : ℕ → Bool). countBelow
 pub buffered : (xs : List ℕ) (e a b file packed : ℕ) {o : Opening} {row : List ℕ} → let r = readSheet xs in Opens (unlessBuffers r e a b file packed) r e o row → o .refusal .number ≡ 0
     → Windowed r e a b (o .selection) row × (file ≡ b - a) × (packed ≡ packedLength r e a b)
 buffered xs e a b file packed O z =
-    let count = packedLength (readSheet xs) e a b in
-    let tests = bufferTests file (b - a) packed count in
-    let P = after-window xs e a b (unlessFault tests) O z in
-    let B = buffer-known file (b - a) packed count 0 (sym (fault-through tests (P .1) .0)) refl in
-    (P .0, B .0, B .1)
+    let B = buffers-through (readSheet xs) e a b file packed (sym (verdict-none (O .verdict) z (done []))) .0 in
+    (window-known xs (O .chosen z) (B .window), B .file-long, B .packed-long)
