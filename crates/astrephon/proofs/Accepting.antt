@@ -7,17 +7,19 @@ use lib.ListN.{length}
 use borrow.Author.Tests.{le-leb}
 use Rattle.counting.specs.Gather.{inFile, gathered, scattered}
 use Rattle.counting.specs.Trays.{moved, pairMoved}
+use Rattle.counting.proofs.Counts.{count-window}
+use Rattle.counting.proofs.Gathers.{length-gathered}
 use Rattle.sheets.specs.declared.Reading.{Reading}
 use Rattle.sheets.specs.Refusals.{firstFault}
 use Rattle.sheets.specs.Sheet.{readSheet}
-use Rattle.openings.specs.Said.{Said, done}
+use Rattle.openings.specs.Said.{done}
 use Rattle.openings.specs.Refusals.{ELEMENT, callRefusal}
-use Rattle.openings.specs.Offsets.{LIMIT, offsetsOf, elementTest, pairTests, windowTests, bothFrom, unlessWindow}
+use Rattle.openings.specs.Offsets.{LIMIT, offsetsOf, elementTest, pairTests, bothFrom}
 use Rattle.openings.specs.Buffers.{packedLength, trayTests}
-use Rattle.openings.proofs.Orders.{row-there, sheet-passed, fault-refused, fault-passed, fault-through, same-value, left-held, writes}
-use Rattle.openings.proofs.Opens.{element-on, element-through}
+use Rattle.openings.proofs.Orders.{row-there, sheet-passed, fault-refused, fault-passed, same-value, left-held, writes}
+use Rattle.openings.proofs.Opens.{WindowFine, BuffersFine, window-through, buffers-on, buffers-through}
 use Rattle.openings.proofs.PairOpens.{sheets-on, elements-on}
-use Rattle.openings.proofs.Faults.{range-fine, range-known, buffer-fine, trays-buffers}
+use Rattle.openings.proofs.Faults.{range-fine, buffer-fine, trays-buffers}
 use Rattle.astrephon.specs.Carries.{packedLengthOf, gatherOf, scatterOf, gatherCall, scatterCall}
 use Rattle.astrephon.specs.Moves.{elementsRead, moveOf, pairMoveOf, moveCall, pairMoveCall}
 use Rattle.astrephon.specs.declared.Measured.the-variants.{Bytes}
@@ -27,41 +29,72 @@ use Rattle.astrephon.specs.Sequences.{Takes, Forward}
 use Rattle.astrephon.proofs.Contracts.{Made, PackedLen, Gather, Scatter, MoveTray, MovePair}
 use Rattle.astrephon.proofs.Saying.{carried-same}
 
+-- ---- GATHER AND SCATTER: what they leave where sheet, element, window and buffers are fine; and where they did their work all of that was fine
+module _ (xs : List ℕ) (e a b : ℕ) (from held : List ℕ) where
+  abbrev r : Reading
+  r = readSheet xs
+
+  gather-does : BuffersFine r e a b (length from) (length held)
+      → let outcome = gatherCall xs e a b from held in (done [] ≡ outcome .says) × (gathered (offsetsOf r e) a (b - a) (inFile a from) ≡ outcome .later)
+  unfolding gatherOf
+  gather-does B = writes held _ (buffers-on _ _ _ _ _ _ B _) refl
+
+  scatter-does : BuffersFine r e a b (length held) (length from)
+      → let outcome = scatterCall xs e a b from held in (done [] ≡ outcome .says) × (scattered (offsetsOf r e) a (b - a) from held ≡ outcome .later)
+  unfolding scatterOf
+  scatter-does B = writes held _ (buffers-on _ _ _ _ _ _ B _) refl
+
+  gather-had : done [] ≡ gatherCall xs e a b from held .says → BuffersFine r e a b (length from) (length held)
+  unfolding gatherOf
+  gather-had q = buffers-through r e a b (length from) (length held) (sym q) .0
+
+  scatter-had : done [] ≡ scatterCall xs e a b from held .says → BuffersFine r e a b (length held) (length from)
+  unfolding scatterOf
+  scatter-had q = buffers-through r e a b (length held) (length from) (sym q) .0
+
+  -- .. of every answer that meets their contracts
+  module _ (later : List ℕ) (m : Made 3) where
+    pub gather-made : (answer : Carried) → WindowFine r e a b → length from ≡ b - a → length held ≡ packedLength r e a b → Gather m xs e a b from held answer later
+        → (answer ≡ Done) × (later ≡ gathered (offsetsOf r e) a (b - a) (inFile a from))
+    gather-made answer W long packed p =
+        let D = gather-does (record { window = W; file-long = long; packed-long = packed }) in
+        (carried-same answer Done (p .0 ∙ sym (D .0)), p .1 ∙ sym (D .1))
+
+    pub scatter-made : (answer : Carried) → WindowFine r e a b → length held ≡ b - a → length from ≡ packedLength r e a b → Scatter m xs e a b from held answer later
+        → (answer ≡ Done) × (later ≡ scattered (offsetsOf r e) a (b - a) from held)
+    scatter-made answer W long packed p =
+        let D = scatter-does (record { window = W; file-long = long; packed-long = packed }) in
+        (carried-same answer Done (p .0 ∙ sym (D .0)), p .1 ∙ sym (D .1))
+
+    pub gather-left : Gather m xs e a b from held Done later → BuffersFine r e a b (length from) (length held) × (later ≡ gathered (offsetsOf r e) a (b - a) (inFile a from))
+    gather-left p = let B = gather-had (p .0) in (B, p .1 ∙ sym (gather-does B .1))
+
+    pub scatter-left : Scatter m xs e a b from held Done later → BuffersFine r e a b (length held) (length from) × (later ≡ scattered (offsetsOf r e) a (b - a) from held)
+    scatter-left p = let B = scatter-had (p .0) in (B, p .1 ∙ sym (scatter-does B .1))
+
+-- what is gathered is as long as scatter asks
+pub gathered-long : {r : Reading} {e a b : ℕ} → WindowFine r e a b → (f : ℕ → ℕ) → length (gathered (offsetsOf r e) a (b - a) f) ≡ packedLength r e a b
+gathered-long {r} {e} {a} {b} W f = omega (arith, length-gathered (offsetsOf r e) a (b - a) f, count-window (offsetsOf r e) a b (W .forward))
+
 module _ {a b : ℕ} (W : Forward a b) where
-  -- ---- gather and scatter
   module _ {xs : List ℕ} (X : Takes xs a) (e : ℕ) where
-    abbrev r : Reading
-    r = readSheet xs
+    pub window-fine : e < readSheet xs .layout .elements → WindowFine (readSheet xs) e a b
+    window-fine there = record { fine = X .fine; there = there; forward = W .forward; after = X .after; near = W .near }
 
-    window-on : e < r .layout .elements → (next : Said) → next ≡ unlessWindow r e a b next
-    window-on there next = fault-passed next _ 0 (range-fine LIMIT _ a b (W .forward) (X .after) (W .near)) refl ∙ element-on r e _ (X .fine) there
+    module _ (there : e < readSheet xs .layout .elements) (m : Made 3) (from held : List ℕ) (answer : Carried) (later : List ℕ) where
+      pub gather-done : length from ≡ b - a → length held ≡ packedLength (readSheet xs) e a b → Gather m xs e a b from held answer later → answer ≡ Done
+      gather-done long packed p = gather-made xs e a b from held later m answer (window-fine there) long packed p .0
 
-    pub gather-does : e < r .layout .elements → (file held : List ℕ) → length file ≡ b - a → length held ≡ packedLength r e a b
-        → let outcome = gatherCall xs e a b file held in (done [] ≡ outcome .says) × (gathered (offsetsOf r e) a (b - a) (inFile a file) ≡ outcome .later)
-    unfolding gatherOf
-    gather-does there file held long packed =
-        writes held _ (fault-passed _ _ 0 (buffer-fine (length file) (b - a) (length held) (packedLength r e a b) long packed) refl ∙ window-on there _) refl
-
-    pub scatter-does : e < r .layout .elements → (packed held : List ℕ) → length held ≡ b - a → length packed ≡ packedLength r e a b
-        → let outcome = scatterCall xs e a b packed held in (done [] ≡ outcome .says) × (scattered (offsetsOf r e) a (b - a) packed held ≡ outcome .later)
-    unfolding scatterOf
-    scatter-does there packed held long count =
-        writes held _ (fault-passed _ _ 0 (buffer-fine (length held) (b - a) (length packed) (packedLength r e a b) long count) refl ∙ window-on there _) refl
-
-    -- .. and so every answer that meets their contracts
-    module _ (there : e < r .layout .elements) (m : Made 3) (from held : List ℕ) (answer : Carried) (later : List ℕ) where
-      pub gather-done : length from ≡ b - a → length held ≡ packedLength r e a b → Gather m xs e a b from held answer later → answer ≡ Done
-      gather-done long packed p = carried-same answer Done (p .0 ∙ sym (gather-does there from held long packed .0))
-
-      pub scatter-done : length held ≡ b - a → length from ≡ packedLength r e a b → Scatter m xs e a b from held answer later → answer ≡ Done
-      scatter-done long count p = carried-same answer Done (p .0 ∙ sym (scatter-does there from held long count .0))
+      pub scatter-done : length held ≡ b - a → length from ≡ packedLength (readSheet xs) e a b → Scatter m xs e a b from held answer later → answer ≡ Done
+      scatter-done long packed p = scatter-made xs e a b from held later m answer (window-fine there) long packed p .0
 
     -- an element that is not there: nothing is written
-    pub scatter-absent : r .layout .elements ≤ e → (packed held : List ℕ) → scatterCall xs e a b packed held .later ≡ held
+    pub scatter-absent : readSheet xs .layout .elements ≤ e → (packed held : List ℕ) → scatterCall xs e a b packed held .later ≡ held
     unfolding scatterOf
     scatter-absent none packed held =
         left-held held _
-        (fault-refused _ (elementTest (r .layout .elements) e ∷ []) ELEMENT (row-there ELEMENT _ (le-leb _ _ none)) (callRefusal ELEMENT 0) refl (λ z. absurd (omega arith)) ∙ sheet-passed _ 1 r (X .fine))
+        (fault-refused _ (elementTest (readSheet xs .layout .elements) e ∷ []) ELEMENT (row-there ELEMENT _ (le-leb _ _ none)) (callRefusal ELEMENT 0) refl (λ z. absurd (omega arith))
+        ∙ sheet-passed _ 1 (readSheet xs) (X .fine))
 
   -- ---- moves
   module _ {xs ys : List ℕ} (X : Takes xs a) (Y : Takes ys a) (t held : List ℕ) where
@@ -102,27 +135,13 @@ module _ {a b : ℕ} (W : Forward a b) where
 
 -- ---- PACKED LENGTH IS WHAT IS ASKED FOR: where it is answered, gather and scatter do their work with a packed buffer of that length, and a file buffer of the window's
 module _ (m : Made 1) (xs : List ℕ) (e a b n : ℕ) (p : PackedLen m xs e a b (Bytes n)) where
-  record Measures : Type 0 where
-    takes : Takes xs a
-    window : Forward a b
-    there : e < readSheet xs .layout .elements
-    count : packedLength (readSheet xs) e a b ≡ n
-
-  measures : Measures
+  measured : WindowFine (readSheet xs) e a b × (packedLength (readSheet xs) e a b ≡ n)
   unfolding packedLengthOf
-  measures =
-      let element = element-through (readSheet xs) e (sym p) in
-      let window = fault-through (windowTests (readSheet xs .layout .displacement) a b) (element .2) in
-      let known = range-known LIMIT (readSheet xs .layout .displacement) a b 0 (sym (window .0)) refl in record {
-        takes = record { fine = element .0; after = known .1 };
-        window = record { forward = known .0; near = known .2 };
-        there = element .1;
-        count = same-value (window .1);
-      }
+  measured = let W = window-through (readSheet xs) e a b (sym p) in (W .0, same-value (W .1))
 
   module _ (m′ : Made 3) (from held : List ℕ) (answer : Carried) (later : List ℕ) where
     pub packed-len-then-gather : length from ≡ b - a → length held ≡ n → Gather m′ xs e a b from held answer later → answer ≡ Done
-    packed-len-then-gather long count = gather-done (measures .window) (measures .takes) e (measures .there) m′ from held answer later long (count ∙ sym (measures .count))
+    packed-len-then-gather long count q = gather-made xs e a b from held later m′ answer (measured .0) long (count ∙ sym (measured .1)) q .0
 
     pub packed-len-then-scatter : length held ≡ b - a → length from ≡ n → Scatter m′ xs e a b from held answer later → answer ≡ Done
-    packed-len-then-scatter long count = scatter-done (measures .window) (measures .takes) e (measures .there) m′ from held answer later long (count ∙ sym (measures .count))
+    packed-len-then-scatter long count q = scatter-made xs e a b from held later m′ answer (measured .0) long (count ∙ sym (measured .1)) q .0

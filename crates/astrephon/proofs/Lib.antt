@@ -16,6 +16,7 @@ pub mod Accepting
 pub mod Trays
 pub mod Chains
 pub mod Rebuilding
+pub mod GatherScatter
 pub mod SharedRuns
 pub mod Panel
 pub mod Samples

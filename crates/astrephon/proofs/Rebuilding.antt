@@ -11,18 +11,16 @@ use Rattle.counting.specs.Gather.{inFile, gathered, scattered, tabulated}
 use Rattle.counting.specs.Elements.{element}
 use Rattle.counting.specs.Trays.{tray, scatteredAll}
 use Rattle.counting.proofs.Cases.{lt-or-le}
-use Rattle.counting.proofs.Counts.{count-window}
-use Rattle.counting.proofs.Gathers.{tabulated-ext, tabulated-whole, length-gathered}
+use Rattle.counting.proofs.Gathers.{tabulated-ext, tabulated-whole}
 use Rattle.counting.proofs.Elements.{element-tabulated}
 use Rattle.counting.proofs.Scatters.{length-scattered, scattered-all}
 use Rattle.sheets.specs.declared.Reading.{Reading}
 use Rattle.sheets.specs.Sheet.{readSheet}
 use Rattle.openings.specs.Offsets.{offsetsOf}
-use Rattle.openings.specs.Buffers.{packedLength}
 use Rattle.astrephon.specs.Moves.{elementsRead}
 use Rattle.astrephon.specs.Sequences.{Takes, Forward, Packs}
 use Rattle.astrephon.proofs.Sequences.{Gathered, Scattered, Gathers, Scatters}
-use Rattle.astrephon.proofs.Accepting.{gather-does, scatter-does, scatter-absent}
+use Rattle.astrephon.proofs.Accepting.{window-fine, gather-made, scatter-made, gathered-long, scatter-absent}
 use Rattle.astrephon.proofs.Trays.{elements-length, past-none, shared-out}
 
 module _ {xs : List ℕ} {a b : ℕ} (X : Takes xs a) (W : Forward a b) (packs : ℕ → List ℕ) (long : Packs xs packs a b) (file : List ℕ) (whole : length file ≡ b - a) where
@@ -33,7 +31,7 @@ module _ {xs : List ℕ} {a b : ℕ} (X : Takes xs a) (W : Forward a b) (packs :
   f = inFile a file
 
   gather-leaves : (e : ℕ) → e < r .layout .elements → (packed : List ℕ) → Gathered xs e a b file (packs e) packed → packed ≡ gathered (offsetsOf r e) a (b - a) f
-  gather-leaves e h packed made = made .2 .1 ∙ sym (gather-does W X e h file (packs e) whole (long e h) .1)
+  gather-leaves e h packed made = gather-made xs e a b file (packs e) packed (made .0) (made .1) (window-fine W X e h) whole (long e h) (made .2) .1
 
   -- of the elements from k on
   gathers-from : (k n : ℕ) → k + n ≤ r .layout .elements → (all : List ℕ) → Gathers xs packs (tabulated k n (λ e. e)) a b file all → all ≡ tray (tabulated k n (offsetsOf r)) a (b - a) f
@@ -46,9 +44,6 @@ module _ {xs : List ℕ} {a b : ℕ} (X : Takes xs a) (W : Forward a b) (packs :
   tray-gathers all made = gathers-from 0 (r .layout .elements) (omega arith) all made
 
   -- ---- what a scatter of what was gathered leaves. Where the element is none, nothing is written
-  packed-long : (e : ℕ) → length (gathered (offsetsOf r e) a (b - a) f) ≡ packedLength r e a b
-  packed-long e = omega (arith, length-gathered (offsetsOf r e) a (b - a) f, count-window (offsetsOf r e) a b (W .forward))
-
   put-back : List ℕ → ℕ → List ℕ
   put-back v e = scattered (element (elementsRead r) e) a (b - a) (gathered (element (elementsRead r) e) a (b - a) f) v
 
@@ -57,8 +52,8 @@ module _ {xs : List ℕ} {a b : ℕ} (X : Takes xs a) (W : Forward a b) (packs :
   scatter-leaves e packed v later l first second = ⊎-elim
       (λ there.
       let is : packed ≡ gathered (offsetsOf r e) a (b - a) f = gather-leaves e there packed first in
-      second .2 .1
-      ∙ sym (scatter-does W X e there packed v l (ap length is ∙ packed-long e) .1)
+      let fine = window-fine W X e there in
+      scatter-made xs e a b packed v later (second .0) (second .1) fine l (ap length is ∙ gathered-long fine f) (second .2) .1
       ∙ ap (λ (u : List ℕ). scattered (offsetsOf r e) a (b - a) u v) is
       ∙ ap (λ (p : ℕ → Bool). scattered p a (b - a) (gathered p a (b - a) f) v) (sym (element-tabulated (offsetsOf r) (r .layout .elements) e there)))
       (λ past.

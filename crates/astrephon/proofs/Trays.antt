@@ -1,14 +1,15 @@
 -- THE TRAY OF AN ACCEPTED SHEET is its window in another order: every place holds exactly one offset's byte. Assumes nothing.
-use mathlib.Core.Bool.{Bool, false}
-use mathlib.Core.Path.{_≡_, sym, ap, _∙_}
+use mathlib.Core.Bool.{Bool, false, _&&_}
+use mathlib.Core.Path.{_≡_, sym, ap, ap₂, _∙_}
 use mathlib.Core.List.{List, map}
-use Prim.Native.Nat.{ℕ, _+_, _≤_, _<_}
+use Prim.Native.Nat.{ℕ, suc, _+_, _-_, _≤_, _<_}
 use native.Mathlib.Omega.{arith}
 use lib.ListN.{length, List·getD-eq-default}
 use Rattle.counting.specs.Periodic.{owns}
 use Rattle.counting.specs.Elements.{Elements, element, times, Partition}
 use Rattle.counting.specs.Trays.{tray, trayPlace, inTray}
 use Rattle.counting.proofs.Gathers.{length-tabulated, tabulated-map}
+use Rattle.counting.proofs.Elements.{element-tabulated, elements-apart}
 use Rattle.counting.proofs.Trays.{tray-length, tray-at, place-within, place-injective, place-surjective}
 use Rattle.families.specs.Forest.{has}
 use Rattle.families.specs.Decoded.{treeOf, selections}
@@ -38,6 +39,14 @@ module _ {xs : List ℕ} {a : ℕ} (X : Takes xs a) where
   pub shared-out : (n : ℕ) → Partition L a n
   shared-out n x h k =
       ap (λ (M : Elements). times M x) (sym (elements-map (readSheet xs))) ∙ accepted-law xs (X .fine) .file x (omega (arith, X .after))
+
+  -- two different elements share none of its offsets
+  pub offsets-apart : (i j : ℕ) → i < readSheet xs .layout .elements → j < readSheet xs .layout .elements → (i ≡ j → ⊥)
+      → (x : ℕ) → a ≤ x → (offsetsOf (readSheet xs) i x && offsetsOf (readSheet xs) j x) ≡ false
+  offsets-apart i j one two differ x h =
+      let is : (e : ℕ) → e < readSheet xs .layout .elements → element L e x ≡ offsetsOf (readSheet xs) e x =
+      λ e there. ap (λ (p : ℕ → Bool). p x) (element-tabulated (offsetsOf (readSheet xs)) (readSheet xs .layout .elements) e there) in
+      ap₂ (λ (s t : Bool). s && t) (sym (is i one)) (sym (is j two)) ∙ elements-apart L x i j (shared-out (suc (x - a)) x h (omega arith)) differ
 
   module _ (n : ℕ) where
     -- the byte of an offset stands at its place, and the tray is as long as the window

@@ -1,6 +1,6 @@
 -- Which elements have a number. Assumes nothing.
 use mathlib.Core.Path.{_≡_, refl, sym, ap, _∙_}
-use mathlib.Core.Bool.{Bool, true, false, true≢false}
+use mathlib.Core.Bool.{Bool, true, false, _&&_, true≢false}
 use mathlib.Core.List.{[], _∷_, _++_, map}
 use Prim.Native.Nat.{ℕ, zero, suc, _+_, _-_, _%_, _≤_, _<_}
 use native.Mathlib.Nat.{zero-add}
@@ -39,6 +39,12 @@ first-only (p ∷ L) x zero t h = rw h refl
 first-only (p ∷ L) x (suc i) t h = byTest (p x)
     (λ q. absurd (omega (arith, times-some L x i h, rw q at t)))
     (λ q. rw q (ap suc (first-only L x i (omega (arith, rw q at t)) h)))
+
+-- two elements never share a number that is in exactly one
+pub elements-apart : (L : Elements) (x i j : ℕ) → times L x ≡ 1 → (i ≡ j → ⊥) → (element L i x && element L j x) ≡ false
+elements-apart L x i j once differ = byTest (element L i x)
+    (λ p. byTest (element L j x) (λ q. absurd (differ (sym (first-only L x i once p) ∙ first-only L x j once q))) (λ q. rw (p, q) refl))
+    (λ p. rw p refl)
 
 -- ---- elements and then further ones
 pub times-append : (L M : Elements) (x : ℕ) → times (L ++ M) x ≡ times L x + times M x
