@@ -1,13 +1,18 @@
 //! What stands in the buffers that gather, scatter and the moves are lent, and what a call carries from one to the other: byte by byte,
 //! each known by its file offset.
 
-use crate::element::Element;
+use crate::element::{Element, END};
 use crate::frame::LONGEST_BLOB;
 use crate::layout::Layout;
 use std::collections::BTreeMap;
 
 /// [a, b): a included, b not.
 pub type Window = (u64, u64);
+
+/// Whether a call accepts a window, where its layouts have started at `start`.
+pub fn is_sound((a, b): Window, start: u64) -> bool {
+    start <= a && a <= b && b <= END
+}
 
 /// What a lent buffer holds of a window.
 pub enum Holds {

@@ -1,7 +1,7 @@
 //! Frames by chance: accepted layouts of all shapes, with elements, offsets, windows and lists that are mostly sound and often near an
 //! edge, and now and then a sheet that is refused.
 
-use crate::buffers::Window;
+use crate::buffers::{is_sound, Window};
 use crate::damage::damaged;
 use crate::edges::wrapping;
 use crate::element::{Element, END};
@@ -51,7 +51,7 @@ const BRIEF: usize = 200;
 const ROOMY: usize = 500;
 
 /// An accepted layout of any shape, most often with a brief sheet.
-fn accepted(random: &mut Random) -> Layout {
+pub fn accepted(random: &mut Random) -> Layout {
     let most = if random.once_in(6) { ROOMY } else { BRIEF };
     loop {
         let layout = shapes::any(random);
@@ -213,7 +213,7 @@ fn shared_runs(random: &mut Random) -> Frame {
 
 /// Mostly a window of this length that is accepted, from the larger displacement on, and often at a border of the element's pattern. A
 /// long one is only made where its end is refused, whatever the sheets turn out to be: nobody walks it.
-fn window(random: &mut Random, start: u64, element: &Element, length: u64) -> Window {
+pub fn window(random: &mut Random, start: u64, element: &Element, length: u64) -> Window {
     let (d, p) = (element.displacement(), element.period());
     // The second border from the start on, or a later one.
     let border = d + p * ((start - d) / p + 2 + random.long_below(3));
@@ -269,8 +269,7 @@ fn transfer(random: &mut Random, call: u8) -> Frame {
     if random.below(4) > 0 {
         meet(random, &mut pair, window);
     }
-    let refused = window.0 > window.1 || window.0 < start || window.1 > END;
-    let required = if refused { [7, 5] } else { transfers::transfer(call, &pair).lengths(window) };
+    let required = if is_sound(window, start) { transfers::transfer(call, &pair).lengths(window) } else { [7, 5] };
     let buffers = lengths(random, required).map(|length| random.bytes(length));
     let elements = pair.elements.map(|index| element_index(random, index));
     let sheets = if has_two_sheets(call) { both_sheets(random, &pair) } else { [only_sheet(random, &pair.layouts[0]), Vec::new()] };
@@ -278,7 +277,7 @@ fn transfer(random: &mut Random, call: u8) -> Frame {
 }
 
 /// What is carried stands in the frame and in the line: mostly some ten bytes, seldom hundreds, and once in a great while thousands.
-fn brief_length(random: &mut Random, element: &Element) -> u64 {
+pub fn brief_length(random: &mut Random, element: &Element) -> u64 {
     let pattern = element.period();
     match random.below(80) {
         0 => 2_000 + random.long_below(2_000),

@@ -186,6 +186,12 @@ fn blob(bytes: &[u8]) -> Option<(Vec<u8>, &[u8])> {
     Some((blob.to_vec(), rest))
 }
 
+/// The bytes of a text of two digits each.
+fn bytes_of(digits: &str) -> Option<Vec<u8>> {
+    let pair = |at: usize| u8::from_str_radix(digits.get(at..at + 2)?, 16).ok();
+    (0..digits.len()).step_by(2).map(pair).collect()
+}
+
 /// What a line says. Number 0 is an accepted call; values that a call does not give are 0.
 #[derive(Clone, Debug, PartialEq, Eq, Default)]
 pub struct Answer {
@@ -211,6 +217,17 @@ impl Answer {
     pub fn refused(frame: &Frame, sheet: u8, refusal: Refusal) -> Answer {
         let Refusal { number, place, flag } = refusal;
         Answer { number, sheet, place, flag, into: frame.into.clone(), ..Answer::default() }
+    }
+
+    /// What a line says, if it is one that `line` writes.
+    pub fn read(line: &str) -> Option<Answer> {
+        let (numbers, into) = line.rsplit_once(' ')?;
+        let numbers: Vec<u64> = numbers.split(' ').map(|number| number.parse().ok()).collect::<Option<_>>()?;
+        let [number, sheet, place, flag, value, value2, value3] = numbers[..] else { return None };
+        let into = if into == "-" { Vec::new() } else { bytes_of(into)? };
+        let small = |number: u64| u8::try_from(number).ok();
+        let answer = Answer { number: small(number)?, sheet: small(sheet)?, place, flag: small(flag)?, value, value2, value3, into };
+        (answer.line() == line).then_some(answer)
     }
 
     pub fn line(&self) -> String {

@@ -1,8 +1,9 @@
-//! Makes frames with the lines that 01 asks for, and compares lines with them.
+//! Makes frames with the lines that 01 asks for, compares lines with them, and tries laws on a program's answers.
 
+use comparison::asking::Program;
 use comparison::frame::Frame;
 use comparison::programs::{self, Case};
-use comparison::{calls, generate, spelled};
+use comparison::{calls, generate, laws, spelled};
 use std::error::Error;
 use std::fs;
 use std::path::Path;
@@ -15,7 +16,10 @@ comparison kept FRAMES-FILE LINES-FILE
 comparison cases FOLDER
     writes PROGRAM/NAME.in and PROGRAM/NAME.out for each input that a built program is tried on, and what it must print
 comparison lines FRAMES-FILE EXPECTED-FILE PRINTED-FILE
-    compares the lines that were printed with those expected, and spells the first difference out";
+    compares the lines that were printed with those expected, and spells the first difference out
+comparison laws SEED COUNT PROGRAM ..
+    has a program, given with its arguments, answer calls one after the other, on COUNT layouts by chance, and spells the first law of 02
+    out that its answers break";
 
 fn main() -> ExitCode {
     let words: Vec<String> = std::env::args().skip(1).collect();
@@ -25,6 +29,7 @@ fn main() -> ExitCode {
         ["kept", frames, lines] => write_frames(generate::KEPT, frames, lines),
         ["cases", folder] => write_cases(Path::new(folder)),
         ["lines", frames, expected, printed] => compare(frames, expected, printed),
+        ["laws", seed, count, ref program @ ..] => parsed(seed, count).and_then(|of| try_laws(of, program)),
         _ => Err(USAGE.into()),
     };
     match done {
@@ -58,6 +63,18 @@ fn write_cases(folder: &Path) -> Done<()> {
         fs::write(of_program.join(format!("{name}.in")), input)?;
         fs::write(of_program.join(format!("{name}.out")), output)?;
     }
+    Ok(())
+}
+
+fn try_laws((seed, count): (u64, usize), program: &[&str]) -> Done<()> {
+    let mut program = Program::start(program)?;
+    let mut calls = 0;
+    laws::try_all(seed, count, &mut |frame| {
+        calls += 1;
+        program.ask(frame)
+    })?;
+    program.end()?;
+    println!("{calls} calls on {count} layouts, and every law holds");
     Ok(())
 }
 

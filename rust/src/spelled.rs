@@ -23,6 +23,11 @@ pub fn difference(asked: Option<&Frame>, expected: &str, printed: Option<&str>) 
     format!("{question}  expected {}\n  printed  {got}{differing}", line(expected))
 }
 
+/// What was asked, and what was printed.
+pub fn answered(asked: &Frame, printed: &str) -> String {
+    format!("{}  printed  {}", frame(asked), line(printed))
+}
+
 fn frame(frame: &Frame) -> String {
     let mut out = call(frame) + "\n";
     out += &format!("  sheet 1, {} bytes\n{}", frame.sheet1.len(), sheet(&frame.sheet1));

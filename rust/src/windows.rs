@@ -2,6 +2,7 @@
 //! byte less, and calls with two faults at once. The pairs and windows also serve the moves.
 
 use crate::bounds::one_of_each;
+use crate::buffers::{is_sound, Window};
 use crate::element::{Element, END};
 use crate::figures::{inner_pairs, inner_singles, layout_a, layout_b, layout_c, layout_f, slots, whole_file};
 use crate::frame::{Frame, LONGEST_BLOB};
@@ -28,11 +29,11 @@ impl Pair {
     }
 
     /// The runs of a window that is accepted, and none of any other.
-    pub fn runs(&self, (a, b): (u64, u64)) -> u64 {
-        if a > b || a < self.start() || b > END {
+    pub fn runs(&self, window: Window) -> u64 {
+        if !is_sound(window, self.start()) {
             return 0;
         }
-        runs::shared(&self.element(0), &self.element(1), (a, b)).len() as u64
+        runs::shared(&self.element(0), &self.element(1), window).len() as u64
     }
 
     /// Windows that are accepted: empty, short, across either pattern's border, up to one, and up to the file's end. A border is so far on

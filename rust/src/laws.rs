@@ -1,0 +1,95 @@
+//! What calls have to do with each other, by 02, whatever the bytes are. The laws are tried on what a program answers: the answer to one
+//! call goes into the next, and no answer is worked out here.
+
+use crate::buffers::{is_sound, Window};
+use crate::chance;
+use crate::element::Element;
+use crate::frame::{Answer, Frame};
+use crate::random::Random;
+use crate::spelled;
+use crate::write::sheet;
+
+/// Whoever answers calls: a running program, or this crate's own reading.
+pub type Ask<'a> = &'a mut dyn FnMut(&Frame) -> Result<Answer, String>;
+
+pub const GATHER_THEN_SCATTER: &str = "scattering what was just gathered changes nothing";
+pub const SCATTER_THEN_GATHER: &str = "gathering what was just scattered gives the packed bytes back";
+pub const SCATTER_THEN_SCATTER: &str = "of two scatters to the same element the later alone counts";
+pub const SCATTERS_IN_EITHER_ORDER: &str = "scatters to two different elements give the same file buffer in either order";
+
+/// Tries every law on `count` layouts by chance, and tells the first that is broken.
+pub fn try_all(seed: u64, count: usize, ask: Ask) -> Result<(), String> {
+    let random = &mut Random::new(seed);
+    (0..count).try_for_each(|_| gather_and_scatter(random, ask))
+}
+
+/// 02's W11, on one layout and window.
+fn gather_and_scatter(random: &mut Random, ask: Ask) -> Result<(), String> {
+    let Carrying { sheet, window, elements: [i, j] } = carrying(random);
+    let gather = |element, file: &[u8], packed: &[u8]| Frame::gather(sheet.clone(), element, window, file.to_vec(), packed.to_vec());
+    let scatter = |element, packed: &[u8], file: &[u8]| Frame::scatter(sheet.clone(), element, window, packed.to_vec(), file.to_vec());
+    let mut packed = |element| {
+        let length = accepted(ask, &Frame::packed_length(sheet.clone(), element, window))?.value;
+        Ok::<_, String>(random.bytes(length))
+    };
+    let (held, first, second, other) = (packed(i)?, packed(i)?, packed(i)?, packed(j)?);
+    let file = random.bytes(window.1 - window.0);
+
+    let gathered = accepted(ask, &gather(i, &file, &held))?.into;
+    leaves(ask, GATHER_THEN_SCATTER, &scatter(i, &gathered, &file), &file)?;
+    let scattered = accepted(ask, &scatter(i, &first, &file))?.into;
+    leaves(ask, SCATTER_THEN_GATHER, &gather(i, &scattered, &held), &first)?;
+    let alone = accepted(ask, &scatter(i, &second, &file))?.into;
+    leaves(ask, SCATTER_THEN_SCATTER, &scatter(i, &second, &scattered), &alone)?;
+    if i != j {
+        let turned = accepted(ask, &scatter(j, &other, &file))?.into;
+        let both = accepted(ask, &scatter(i, &first, &turned))?.into;
+        leaves(ask, SCATTERS_IN_EITHER_ORDER, &scatter(j, &other, &scattered), &both)?;
+    }
+    Ok(())
+}
+
+/// A sheet and a window that are accepted, and two elements: different ones unless the sheet has but one.
+struct Carrying {
+    sheet: Vec<u8>,
+    window: Window,
+    elements: [u64; 2],
+}
+
+fn carrying(random: &mut Random) -> Carrying {
+    let layout = chance::accepted(random);
+    let (first, many) = (Element::of(&layout, 0), layout.elements.len());
+    let start = first.displacement();
+    let window = loop {
+        let length = chance::brief_length(random, &first);
+        let window = chance::window(random, start, &first, length);
+        // A long one is made where its end is refused.
+        if is_sound(window, start) {
+            break window;
+        }
+    };
+    // Mostly elements with bytes in the window.
+    let mut owner = || Element::owner(&layout, window.0 + random.long_below((window.1 - window.0).max(1))).unwrap_or(0);
+    let (i, j) = (owner(), owner());
+    let j = if i == j { (i + 1) % many } else { j };
+    Carrying { sheet: sheet(&layout), window, elements: [i as u64, j as u64] }
+}
+
+/// The answer to a call that is to be accepted.
+fn accepted(ask: Ask, frame: &Frame) -> Result<Answer, String> {
+    let answer = ask(frame)?;
+    if answer.number > 0 {
+        return Err(format!("a call is refused that has to be accepted: {}", spelled::answered(frame, &answer.line())));
+    }
+    Ok(answer)
+}
+
+/// Sees that a call is accepted and leaves what a law says.
+fn leaves(ask: Ask, law: &str, frame: &Frame, due: &[u8]) -> Result<(), String> {
+    let due = Answer { into: due.to_vec(), ..Answer::default() };
+    let given = ask(frame)?;
+    if given != due {
+        return Err(format!("it does not hold that {law}: {}", spelled::difference(Some(frame), &due.line(), Some(&given.line()))));
+    }
+    Ok(())
+}
