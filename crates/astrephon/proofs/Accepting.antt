@@ -5,6 +5,7 @@ use Prim.Native.Nat.{ℕ, _-_, _≤_, _<_}
 use native.Mathlib.Omega.{arith}
 use lib.ListN.{length}
 use borrow.Author.Tests.{le-leb}
+use Rattle.counting.specs.Count.{countIn}
 use Rattle.counting.specs.Gather.{inFile, gathered, scattered}
 use Rattle.counting.specs.Trays.{moved, pairMoved}
 use Rattle.counting.proofs.Counts.{count-window}
@@ -72,9 +73,13 @@ module _ (xs : List ℕ) (e a b : ℕ) (from held : List ℕ) where
     pub scatter-left : Scatter m xs e a b from held Done later → BuffersFine r e a b (length held) (length from) × (later ≡ scattered (offsetsOf r e) a (b - a) from held)
     scatter-left p = let B = scatter-had (p .0) in (B, p .1 ∙ sym (scatter-does B .1))
 
--- what is gathered is as long as scatter asks
-pub gathered-long : {r : Reading} {e a b : ℕ} → WindowFine r e a b → (f : ℕ → ℕ) → length (gathered (offsetsOf r e) a (b - a) f) ≡ packedLength r e a b
-gathered-long {r} {e} {a} {b} W f = omega (arith, length-gathered (offsetsOf r e) a (b - a) f, count-window (offsetsOf r e) a b (W .forward))
+-- the packed length is a count, and what is gathered is as long as scatter asks
+module _ {r : Reading} {e a b : ℕ} (W : WindowFine r e a b) where
+  pub window-count : packedLength r e a b ≡ countIn (offsetsOf r e) a (b - a)
+  window-count = omega (arith, count-window (offsetsOf r e) a b (W .forward))
+
+  pub gathered-long : (f : ℕ → ℕ) → length (gathered (offsetsOf r e) a (b - a) f) ≡ packedLength r e a b
+  gathered-long f = length-gathered (offsetsOf r e) a (b - a) f ∙ sym window-count
 
 module _ {a b : ℕ} (W : Forward a b) where
   module _ {xs : List ℕ} (X : Takes xs a) (e : ℕ) where

@@ -3,10 +3,8 @@
 use mathlib.Core.Path.{_≡_, sym, ap, _∙_}
 use mathlib.Core.List.{List}
 use Prim.Native.Nat.{ℕ, _-_}
-use native.Mathlib.Omega.{arith}
 use lib.ListN.{length}
 use Rattle.counting.specs.Gather.{inFile, gathered, scattered}
-use Rattle.counting.proofs.Counts.{count-window}
 use Rattle.counting.proofs.Scatters.{length-scattered, scatter-gather, gather-scatter, scatter-scatter, scatter-comm}
 use Rattle.sheets.specs.declared.Reading.{Reading}
 use Rattle.sheets.specs.Sheet.{readSheet}
@@ -15,7 +13,7 @@ use Rattle.astrephon.specs.declared.Carried.{Carried}
 use Rattle.astrephon.specs.declared.Carried.the-variants.{Done}
 use Rattle.astrephon.specs.Sequences.{Takes}
 use Rattle.astrephon.proofs.Contracts.{Made, Gather, Scatter}
-use Rattle.astrephon.proofs.Accepting.{gather-left, scatter-left, scatter-made, gathered-long}
+use Rattle.astrephon.proofs.Accepting.{gather-left, scatter-left, scatter-made, window-count, gathered-long}
 use Rattle.astrephon.proofs.Trays.{offsets-apart}
 
 module _ (xs : List ℕ) (a b : ℕ) (m m′ : Made 3) where
@@ -41,10 +39,9 @@ module _ (xs : List ℕ) (a b : ℕ) (m m′ : Made 3) where
         → Scatter m xs e a b packed held Done file → Gather m′ xs e a b file before Done later → later ≡ packed
     scatter-then-gather packed held file before later p q =
         let S = scatter-left xs e a b packed held file m p in
-        let count = count-window (offsetsOf r e) a b (S .0 .window .forward) in
         gather-left xs e a b file before later m′ q .1
         ∙ ap (λ (u : List ℕ). gathered (offsetsOf r e) a (b - a) (inFile a u)) (S .1)
-        ∙ gather-scatter (offsetsOf r e) a (b - a) packed held (omega (arith, S .0 .packed-long, count))
+        ∙ gather-scatter (offsetsOf r e) a (b - a) packed held (S .0 .packed-long ∙ window-count (S .0 .window))
 
     -- OF TWO SCATTERS to the same element the later alone counts
     pub scatter-then-scatter : (m″ : Made 3) (first second held between later alone : List ℕ) (answer : Carried)
