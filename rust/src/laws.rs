@@ -29,8 +29,12 @@ fn gather_and_scatter(random: &mut Random, ask: Ask) -> Result<(), String> {
     let gather = |element, file: &[u8], packed: &[u8]| Frame::gather(sheet.clone(), element, window, file.to_vec(), packed.to_vec());
     let scatter = |element, packed: &[u8], file: &[u8]| Frame::scatter(sheet.clone(), element, window, packed.to_vec(), file.to_vec());
     let mut packed = |element| {
-        let length = accepted(ask, &Frame::packed_length(sheet.clone(), element, window))?.value;
-        Ok::<_, String>(random.bytes(length))
+        let asked = Frame::packed_length(sheet.clone(), element, window);
+        let answer = accepted(ask, &asked)?;
+        if answer.value > window.1 - window.0 {
+            return Err(format!("an element has more bytes than the window: {}", spelled::answered(&asked, &answer.line())));
+        }
+        Ok(random.bytes(answer.value))
     };
     let (held, first, second, other) = (packed(i)?, packed(i)?, packed(i)?, packed(j)?);
     let file = random.bytes(window.1 - window.0);

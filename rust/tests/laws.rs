@@ -5,7 +5,7 @@ use comparison::asking::Program;
 use comparison::calls::answer;
 use comparison::element::Element;
 use comparison::figures::layout_f;
-use comparison::frame::{Answer, Frame, GATHER, SCATTER};
+use comparison::frame::{Answer, Frame, GATHER, PACKED_LENGTH, SCATTER};
 use comparison::laws::{try_all, GATHER_THEN_SCATTER, SCATTERS_IN_EITHER_ORDER, SCATTER_THEN_GATHER, SCATTER_THEN_SCATTER};
 use comparison::refusal::{BUFFER, FAR};
 use comparison::sheet::read;
@@ -75,6 +75,14 @@ fn a_call_that_is_refused_is_told() {
     assert!(refuses(SCATTER).starts_with(&format!("it does not hold that {GATHER_THEN_SCATTER}: scatter of")));
     let told = try_all(22, 1, &mut |_| Ok(Answer { number: BUFFER, ..Answer::default() })).expect_err("everything is refused");
     assert!(told.contains("packed length of element") && told.contains("printed  '17 0 0 0 0 0 0 -': BUFFER"), "{told}");
+}
+
+/// Before a buffer of that length is made.
+#[test]
+fn a_length_that_no_window_has_is_told() {
+    let boundless =
+        broken(|frame| if frame.call == PACKED_LENGTH { Answer { value: u64::MAX, ..Answer::default() } } else { answer(frame) });
+    assert!(boundless.starts_with("an element has more bytes than the window: packed length of element"), "{boundless}");
 }
 
 /// A command that reads a frame's first number and then goes its own way.
