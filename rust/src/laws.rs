@@ -28,16 +28,9 @@ fn gather_and_scatter(random: &mut Random, ask: Ask) -> Result<(), String> {
     let Carrying { sheet, window, elements: [i, j] } = carrying(random);
     let gather = |element, file: &[u8], packed: &[u8]| Frame::gather(sheet.clone(), element, window, file.to_vec(), packed.to_vec());
     let scatter = |element, packed: &[u8], file: &[u8]| Frame::scatter(sheet.clone(), element, window, packed.to_vec(), file.to_vec());
-    let mut packed = |element| {
-        let asked = Frame::packed_length(sheet.clone(), element, window);
-        let answer = accepted(ask, &asked)?;
-        if answer.value > window.1 - window.0 {
-            return Err(format!("an element has more bytes than the window: {}", spelled::answered(&asked, &answer.line())));
-        }
-        Ok(random.bytes(answer.value))
-    };
-    let (held, first, second, other) = (packed(i)?, packed(i)?, packed(i)?, packed(j)?);
-    let file = random.bytes(window.1 - window.0);
+    let mut length = |element| packed_length(ask, &Frame::packed_length(sheet.clone(), element, window));
+    let (of_i, of_j, whole) = (length(i)?, length(j)?, window.1 - window.0);
+    let [held, first, second, other, file] = [of_i, of_i, of_i, of_j, whole].map(|length| random.bytes(length));
 
     let gathered = accepted(ask, &gather(i, &file, &held))?.into;
     leaves(ask, GATHER_THEN_SCATTER, &scatter(i, &gathered, &file), &file)?;
@@ -86,6 +79,15 @@ fn accepted(ask: Ask, frame: &Frame) -> Result<Answer, String> {
         return Err(format!("a call is refused that has to be accepted: {}", spelled::answered(frame, &answer.line())));
     }
     Ok(answer)
+}
+
+/// The packed length that a program tells: no longer than the window, before a buffer is made of it.
+fn packed_length(ask: Ask, frame: &Frame) -> Result<u64, String> {
+    let answer = accepted(ask, frame)?;
+    if answer.value > frame.b - frame.a {
+        return Err(format!("an element has more bytes than the window: {}", spelled::answered(frame, &answer.line())));
+    }
+    Ok(answer.value)
 }
 
 /// Sees that a call is accepted and leaves what a law says.

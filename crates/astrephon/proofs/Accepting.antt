@@ -13,15 +13,16 @@ use Rattle.counting.proofs.Gathers.{length-gathered}
 use Rattle.sheets.specs.declared.Reading.{Reading}
 use Rattle.sheets.specs.Refusals.{firstFault}
 use Rattle.sheets.specs.Sheet.{readSheet}
-use Rattle.openings.specs.Said.{done}
+use Rattle.openings.specs.Said.{done, Outcome, writing}
 use Rattle.openings.specs.Refusals.{ELEMENT, callRefusal}
 use Rattle.openings.specs.Offsets.{LIMIT, offsetsOf, elementTest, pairTests, bothFrom}
-use Rattle.openings.specs.Buffers.{packedLength, trayTests}
-use Rattle.openings.proofs.Orders.{row-there, sheet-passed, fault-refused, fault-passed, same-value, left-held, writes}
+use Rattle.openings.specs.Buffers.{packedLength, unlessBuffers, trayTests}
+use Rattle.openings.proofs.Orders.{row-there, sheet-passed, fault-refused, fault-passed, same-value, left-held, left-written, writes}
 use Rattle.openings.proofs.Opens.{WindowFine, BuffersFine, window-through, buffers-on, buffers-through}
 use Rattle.openings.proofs.PairOpens.{sheets-on, elements-on}
 use Rattle.openings.proofs.Faults.{range-fine, buffer-fine, trays-buffers}
-use Rattle.astrephon.specs.Carries.{packedLengthOf, gatherOf, scatterOf, gatherCall, scatterCall}
+use Rattle.astrephon.specs.Says.{carriedSays}
+use Rattle.astrephon.specs.Carries.{packedLengthOf, gatherOf, scatterOf, scatterCall}
 use Rattle.astrephon.specs.Moves.{elementsRead, moveOf, pairMoveOf, moveCall, pairMoveCall}
 use Rattle.astrephon.specs.declared.Measured.the-variants.{Bytes}
 use Rattle.astrephon.specs.declared.Carried.{Carried}
@@ -30,48 +31,41 @@ use Rattle.astrephon.specs.Sequences.{Takes, Forward}
 use Rattle.astrephon.proofs.Contracts.{Made, PackedLen, Gather, Scatter, MoveTray, MovePair}
 use Rattle.astrephon.proofs.Saying.{carried-same}
 
--- ---- GATHER AND SCATTER: what they leave where sheet, element, window and buffers are fine; and where they did their work all of that was fine
-module _ (xs : List ℕ) (e a b : ℕ) (from held : List ℕ) where
+-- ---- GATHER AND SCATTER check the same, so this is of both: where sheet, element, window and buffers are fine the call is done and leaves what was to be
+-- written; and where it is done all of that was fine
+module _ (r : Reading) (e a b file packed : ℕ) (held written : List ℕ) where
+  abbrev carry : Outcome
+  carry = writing (unlessBuffers r e a b file packed (done [])) held written
+
+  carry-made : (answer : Carried) (later : List ℕ) → BuffersFine r e a b file packed → (carriedSays answer ≡ carry .says) × (later ≡ carry .later) → (answer ≡ Done) × (later ≡ written)
+  carry-made answer later B p =
+      let on = buffers-on r e a b file packed B (done []) in
+      (carried-same answer Done (p .0 ∙ sym on), p .1 ∙ left-written held written on)
+
+  carry-left : (later : List ℕ) → (done [] ≡ carry .says) × (later ≡ carry .later) → BuffersFine r e a b file packed × (later ≡ written)
+  carry-left later p = (buffers-through r e a b file packed (sym (p .0)) .0, p .1 ∙ left-written held written (p .0))
+
+module _ (xs : List ℕ) (e a b : ℕ) (from held later : List ℕ) (m : Made 3) where
   abbrev r : Reading
   r = readSheet xs
 
-  gather-does : BuffersFine r e a b (length from) (length held)
-      → let outcome = gatherCall xs e a b from held in (done [] ≡ outcome .says) × (gathered (offsetsOf r e) a (b - a) (inFile a from) ≡ outcome .later)
+  pub gather-made : (answer : Carried) → WindowFine r e a b → length from ≡ b - a → length held ≡ packedLength r e a b → Gather m xs e a b from held answer later
+      → (answer ≡ Done) × (later ≡ gathered (offsetsOf r e) a (b - a) (inFile a from))
   unfolding gatherOf
-  gather-does B = writes held _ (buffers-on _ _ _ _ _ _ B _) refl
+  gather-made answer W long packed p = carry-made r e a b _ _ held _ answer later (record { window = W; file-long = long; packed-long = packed }) p
 
-  scatter-does : BuffersFine r e a b (length held) (length from)
-      → let outcome = scatterCall xs e a b from held in (done [] ≡ outcome .says) × (scattered (offsetsOf r e) a (b - a) from held ≡ outcome .later)
+  pub scatter-made : (answer : Carried) → WindowFine r e a b → length held ≡ b - a → length from ≡ packedLength r e a b → Scatter m xs e a b from held answer later
+      → (answer ≡ Done) × (later ≡ scattered (offsetsOf r e) a (b - a) from held)
   unfolding scatterOf
-  scatter-does B = writes held _ (buffers-on _ _ _ _ _ _ B _) refl
+  scatter-made answer W long packed p = carry-made r e a b _ _ held _ answer later (record { window = W; file-long = long; packed-long = packed }) p
 
-  gather-had : done [] ≡ gatherCall xs e a b from held .says → BuffersFine r e a b (length from) (length held)
+  pub gather-left : Gather m xs e a b from held Done later → BuffersFine r e a b (length from) (length held) × (later ≡ gathered (offsetsOf r e) a (b - a) (inFile a from))
   unfolding gatherOf
-  gather-had q = buffers-through r e a b (length from) (length held) (sym q) .0
+  gather-left p = carry-left r e a b (length from) (length held) held _ later p
 
-  scatter-had : done [] ≡ scatterCall xs e a b from held .says → BuffersFine r e a b (length held) (length from)
+  pub scatter-left : Scatter m xs e a b from held Done later → BuffersFine r e a b (length held) (length from) × (later ≡ scattered (offsetsOf r e) a (b - a) from held)
   unfolding scatterOf
-  scatter-had q = buffers-through r e a b (length held) (length from) (sym q) .0
-
-  -- .. of every answer that meets their contracts
-  module _ (later : List ℕ) (m : Made 3) where
-    pub gather-made : (answer : Carried) → WindowFine r e a b → length from ≡ b - a → length held ≡ packedLength r e a b → Gather m xs e a b from held answer later
-        → (answer ≡ Done) × (later ≡ gathered (offsetsOf r e) a (b - a) (inFile a from))
-    gather-made answer W long packed p =
-        let D = gather-does (record { window = W; file-long = long; packed-long = packed }) in
-        (carried-same answer Done (p .0 ∙ sym (D .0)), p .1 ∙ sym (D .1))
-
-    pub scatter-made : (answer : Carried) → WindowFine r e a b → length held ≡ b - a → length from ≡ packedLength r e a b → Scatter m xs e a b from held answer later
-        → (answer ≡ Done) × (later ≡ scattered (offsetsOf r e) a (b - a) from held)
-    scatter-made answer W long packed p =
-        let D = scatter-does (record { window = W; file-long = long; packed-long = packed }) in
-        (carried-same answer Done (p .0 ∙ sym (D .0)), p .1 ∙ sym (D .1))
-
-    pub gather-left : Gather m xs e a b from held Done later → BuffersFine r e a b (length from) (length held) × (later ≡ gathered (offsetsOf r e) a (b - a) (inFile a from))
-    gather-left p = let B = gather-had (p .0) in (B, p .1 ∙ sym (gather-does B .1))
-
-    pub scatter-left : Scatter m xs e a b from held Done later → BuffersFine r e a b (length held) (length from) × (later ≡ scattered (offsetsOf r e) a (b - a) from held)
-    scatter-left p = let B = scatter-had (p .0) in (B, p .1 ∙ sym (scatter-does B .1))
+  scatter-left p = carry-left r e a b (length held) (length from) held _ later p
 
 -- the packed length is a count, and what is gathered is as long as scatter asks
 module _ {r : Reading} {e a b : ℕ} (W : WindowFine r e a b) where
