@@ -1,23 +1,24 @@
--- The number of rank y: there is one exactly when enough pass, and one only. Assumes nothing.
+-- The number of rank y: there is one exactly when enough pass, and one only; and where others stand to it, by their ranks. Assumes nothing.
 use mathlib.Core.Path.{_≡_, refl, sym, subst}
 use mathlib.Core.Bool.{Bool, true, _&&_, not}
-use mathlib.Core.Logic.{_↔_, ⊎-elim}
+use mathlib.Core.Logic.{_↔_, Iff·symm, ⊎-elim}
 use Prim.Native.Nat.{ℕ, zero, suc, _≤_, _<_}
 use native.Mathlib.Nat.{zero-add}
 use native.Mathlib.Omega.{arith}
 use lib.Dec.{eqb}
 use borrow.Author.Tests.{eq-eqb, ne-eqb}
 use Rattle.counting.specs.Count.{countBelow, nth}
-use Rattle.counting.proofs.Cases.{byTest, lt-or-le}
-use Rattle.counting.proofs.Counts.{count-zero, count-here, count-skip, count-past}
+use Rattle.counting.proofs.Cases.{byTest, lt-or-le, above}
+use Rattle.counting.proofs.Counts.{count-zero, count-here, count-skip, count-mono, count-past}
 use Rattle.counting.proofs.Stretches.{stretch-is}
+
+-- of a number z that passes: no more pass before x than before z exactly when x is at most z
+pub rank-order : (p : ℕ → Bool) (x z : ℕ) → p z ≡ true → (countBelow p x ≤ countBelow p z) ↔ (x ≤ z)
+rank-order p x z e = (λ h. ⊎-elim (λ l. absurd (omega (arith, count-past p z x e l))) (λ l. l) (lt-or-le z x), count-mono p x z)
 
 -- two numbers that pass and have one rank are one
 pub rank-injective : (p : ℕ → Bool) (a b : ℕ) → p a ≡ true → p b ≡ true → countBelow p a ≡ countBelow p b → a ≡ b
-rank-injective p a b s t e = ⊎-elim
-    (λ h. absurd (omega (arith, count-past p a b s h)))
-    (λ h. ⊎-elim (λ g. absurd (omega (arith, count-past p b a t g))) (λ g. omega arith) (lt-or-le b a))
-    (lt-or-le a b)
+rank-injective p a b s t e = omega (arith, rank-order p a b t .0 (omega arith), rank-order p b a s .0 (omega arith))
 
 -- each y below the count of m is the rank of a number that passes
 pub rank-onto : (p : ℕ → Bool) (m y : ℕ) → y < countBelow p m → (x : ℕ) × (x < m) × (p x ≡ true) × (countBelow p x ≡ y)
@@ -60,9 +61,20 @@ nth-found p m y h =
     let r = rank-onto p m y h in
     subst (Found p m y) (sym (nth-is p m (r .0) y (r .1) (r .2) (r .3))) (record { below = r .1; passes = r .2; rank = r .3 })
 
--- there is one exactly when enough pass
+-- RANK AND NTH ARE ADJOINT up to m: at most y pass before x exactly when x is at most the nth, also where there is none and the nth is m
+pub rank-at-most : (p : ℕ → Bool) (m x y : ℕ) → x ≤ m → (countBelow p x ≤ y) ↔ (x ≤ nth p m y)
+rank-at-most p m x y h = ⊎-elim there none (lt-or-le y (countBelow p m))
+  where
+    there : y < countBelow p m → (countBelow p x ≤ y) ↔ (x ≤ nth p m y)
+    there l = let F = nth-found p m y l in rw (F .rank) at (rank-order p x (nth p m y) (F .passes))
+
+    none : countBelow p m ≤ y → (countBelow p x ≤ y) ↔ (x ≤ nth p m y)
+    none l = (λ _. omega (arith, nth-none p m y l), λ _. omega (arith, count-mono p x m h))
+
+-- .. and more than y pass before x exactly when x is above the nth
+pub rank-above : (p : ℕ → Bool) (m x y : ℕ) → x ≤ m → (y < countBelow p x) ↔ (nth p m y < x)
+rank-above p m x y h = above (countBelow p x) y x (nth p m y) (rank-at-most p m x y h)
+
+-- so there is one exactly when enough pass
 pub nth-exactly : (p : ℕ → Bool) (m y : ℕ) → (nth p m y < m) ↔ (y < countBelow p m)
-nth-exactly p m y = (
-  λ h. ⊎-elim (λ l. l) (λ l. absurd (omega (arith, nth-none p m y l))) (lt-or-le y (countBelow p m)),
-  λ h. nth-found p m y h .below,
-)
+nth-exactly p m y = Iff·symm (rank-above p m m y (omega arith))

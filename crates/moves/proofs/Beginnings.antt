@@ -2,15 +2,15 @@
 use mathlib.Core.Path.{_≡_, refl, sym, ap, _∙_}
 use mathlib.Core.Bool.{Bool, false}
 use mathlib.Core.List.{List}
-use mathlib.Core.Logic.{⊎-elim}
 use Prim.Native.Nat.{ℕ, _+_, _-_, _%_, _^_, _≤_, _<_}
 use native.Mathlib.Nat.{zero-add, add-sub-of-le, mod-eq-of-lt, mod-eq-sub-mod}
 use native.Mathlib.Omega.{arith}
 use lib.ListN.{getD}
 use borrow.Author.Tests.{le-leb, lt-leb}
 use Rattle.counting.specs.Count.{countBelow}
-use Rattle.counting.proofs.Cases.{byTest, lt-or-le}
+use Rattle.counting.proofs.Cases.{byTest}
 use Rattle.counting.proofs.Counts.{count-le, count-mono, count-past}
+use Rattle.counting.proofs.Nths.{rank-order}
 use Rattle.counting.proofs.Gathers.{countIn-skip}
 use Rattle.maps.specs.declared.Selection.{Selection}
 use Rattle.maps.specs.Selected.{Byte}
@@ -31,7 +31,7 @@ rank-near p a y e h = omega (arith, e, count-le p a)
 
 module _ (p : ℕ → Bool) (a y x : ℕ) (e : y ≡ countBelow p a) (B : Byte p y x) where
   pub byte-after : a ≤ x
-  byte-after = ⊎-elim (λ l. absurd (omega (arith, count-past p x a (B .0) l, B .1))) (λ l. l) (lt-or-le x a)
+  byte-after = rank-order p a x (B .0) .0 (omega (arith, B .1))
 
   pub none-between : (z : ℕ) → a ≤ z → z < x → p z ≡ false
   none-between z u v = byTest (p z) (λ t. absurd (omega (arith, count-past p z x t v, count-mono p a z u, B .1))) (λ t. t)
