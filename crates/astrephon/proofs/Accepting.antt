@@ -78,7 +78,7 @@ module _ {r : Reading} {e a b : ℕ} (W : WindowFine r e a b) where
 module _ {a b : ℕ} (W : Forward a b) where
   module _ {xs : List ℕ} (X : Takes xs a) (e : ℕ) where
     pub window-fine : e < readSheet xs .layout .elements → WindowFine (readSheet xs) e a b
-    window-fine there = record { fine = X .fine; there = there; forward = W .forward; after = X .after; near = W .near }
+    window-fine there = record { element = record { fine = X .fine; there = there }; forward = W .forward; after = X .after; near = W .near }
 
     module _ (there : e < readSheet xs .layout .elements) (m : Made 3) (from held : List ℕ) (answer : Carried) (later : List ℕ) where
       pub gather-done : length from ≡ b - a → length held ≡ packedLength (readSheet xs) e a b → Gather m xs e a b from held answer later → answer ≡ Done
@@ -117,7 +117,8 @@ module _ {a b : ℕ} (W : Forward a b) where
       pub pair-does : (i j : ℕ) → i < r1 .layout .elements → j < r2 .layout .elements
           → let outcome = pairMoveCall xs ys i j a b t held in (done [] ≡ outcome .says) × (pairMoved (elementsRead r1) (elementsRead r2) a (b - a) t i j held ≡ outcome .later)
       unfolding pairMoveOf
-      pair-does i j first second = writes held _ (fault-passed _ _ 0 no-tray-fault refl ∙ elements-on r1 r2 i j _ (X .fine) (Y .fine) first second) refl
+      pair-does i j first second =
+          writes held _ (fault-passed _ _ 0 no-tray-fault refl ∙ elements-on r1 r2 i j (record { fine = X .fine; there = first }) (record { fine = Y .fine; there = second }) _) refl
 
       module _ (m : Made 4) (answer : Carried) (later : List ℕ) where
         pub move-done : MoveTray m xs ys a b t held answer later → answer ≡ Done

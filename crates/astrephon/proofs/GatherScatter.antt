@@ -64,7 +64,7 @@ module _ (xs : List ℕ) (a b : ℕ) (m m′ : Made 3) where
       let S = scatter-made xs j a b of-j held other n answer (J .0 .window) (I .0 .file-long) (J .0 .packed-long) s in
       let long = ap length (S .1) ∙ length-scattered (offsetsOf r j) a (b - a) of-j held in
       let T = scatter-made xs i a b of-i other turned n′ answer′ (I .0 .window) long (I .0 .packed-long) t in
-      let takes : Takes xs a = record { fine = I .0 .window .fine; after = I .0 .window .after } in
-      let apart = offsets-apart takes i j (I .0 .window .there) (J .0 .window .there) differ in
+      let takes : Takes xs a = record { fine = I .0 .window .element .fine; after = I .0 .window .after } in
+      let apart = offsets-apart takes i j (I .0 .window .element .there) (J .0 .window .element .there) differ in
       let turn = scatter-comm (offsetsOf r i) (offsetsOf r j) a (b - a) of-i of-j held (λ x h k. apart x h) in
       (S .0, T .0, J .1 ∙ ap (put j of-j) (I .1) ∙ sym turn ∙ ap (put i of-i) (sym (S .1)) ∙ sym (T .1))

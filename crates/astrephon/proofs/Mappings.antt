@@ -5,7 +5,7 @@ use mathlib.Core.Logic.{⊎-elim}
 use mathlib.Core.List.{List, [], _∷_}
 use Prim.Native.Nat.{ℕ, _≤_, _<_}
 use native.Mathlib.Omega.{arith}
-use borrow.Author.Tests.{le-leb, lt-leb}
+use borrow.Author.Tests.{le-leb, lt-leb, not-false}
 use Rattle.counting.specs.Count.{countBelow}
 use Rattle.counting.proofs.Counts.{count-le}
 use Rattle.counting.proofs.Cases.{lt-or-le}
@@ -21,13 +21,13 @@ use Rattle.maps.proofs.BytesOf.{inverse-near, inverse-far}
 use Rattle.openings.specs.declared.Refusal.{Refusal}
 use Rattle.openings.specs.declared.Opening.{Opening}
 use Rattle.openings.specs.Said.{Said, done, refusalSays}
-use Rattle.openings.specs.Refusals.{FAR, FOREIGN, callRefusal, unlessFault}
+use Rattle.openings.specs.Refusals.{FAR, FOREIGN, callRefusal}
 use Rattle.openings.specs.Offsets.{LIMIT, offsetsOf, rankOf, placeOf, offsetTests, intervalTests, unlessElement}
 use Rattle.openings.specs.Openings.{Opens}
 use Rattle.openings.proofs.Orders.{row-there, row-absent, fault-refused, fault-passed}
 use Rattle.openings.proofs.Verdicts.{verdict-refused}
-use Rattle.openings.proofs.Faults.{offset-fine}
-use Rattle.openings.proofs.Opens.{element-on, Opened}
+use Rattle.openings.proofs.Faults.{offset-known}
+use Rattle.openings.proofs.Opens.{ElementFine, OffsetFine, element-on, offset-on, Opened}
 use Rattle.astrephon.specs.Maps.{exactOf, nextOf, inverseOf, spanOf}
 
 -- ---- nothing was opened
@@ -48,31 +48,36 @@ module _ {r : Reading} {e : ℕ} {o : Opening} {row : List ℕ} (O : Opens (unle
   unfolding spanOf
   span-closed a z = verdict-refused (O .verdict) d _
 
--- ---- an element that is there: its own bytes are mapped
-module _ (r : Reading) (e : ℕ) (fine : r .number ≡ 0) (there : e < r .layout .elements) where
-  pub exact-own : (x n : ℕ) → n ≡ firstFault (offsetTests (r .layout .displacement) x) → n ≡ 0 → not (offsetsOf r e x) ≡ false → done (rankOf r e x ∷ []) ≡ exactOf r e x
+-- ---- a file offset is mapped: its own by exact mapping, and any by next mapping
+module _ {r : Reading} {e x : ℕ} (X : OffsetFine r e x) where
+  pub exact-own : offsetsOf r e x ≡ true → done (rankOf r e x ∷ []) ≡ exactOf r e x
   unfolding exactOf
-  exact-own x n q z own = fault-passed _ _ 0 (row-absent FOREIGN _ own) refl ∙ fault-passed _ _ n q z ∙ element-on r e _ fine there
+  exact-own own = fault-passed _ _ 0 (row-absent FOREIGN _ (ap not own)) refl ∙ offset-on r e x X _
 
+  pub next-any : done (rankOf r e x ∷ []) ≡ nextOf r e x
+  unfolding nextOf
+  next-any = offset-on r e x X _
+
+-- ---- the bytes of an element that is there, both ways
+module _ (r : Reading) (e : ℕ) (E : ElementFine r e) where
   from-on : (x : ℕ) → offsetsOf r e x ≡ true → r .layout .displacement ≤ x
   unfolding offsetsOf
   from-on x own = ⊎-elim (λ h. absurd (true≢false (sym own ∙ owns-none (r .layout .displacement) (r .size) (has (treeOf 4 (r .layout) e)) x h))) (λ h. h) (lt-or-le x (r .layout .displacement))
 
   pub exact-byte : (x y : ℕ) → Byte (offsetsOf r e) y x → x < LIMIT → done (y ∷ []) ≡ exactOf r e x
-  exact-byte x y B near =
-      ap (λ (n : ℕ). done (n ∷ [])) (sym (B .1)) ∙ exact-own x 0 (offset-fine (r .layout .displacement) x (from-on x (B .0)) near) refl (ap not (B .0))
+  exact-byte x y B near = ap (λ (n : ℕ). done (n ∷ [])) (sym (B .1)) ∙ exact-own (record { element = E; after = from-on x (B .0); near = near }) (B .0)
 
   pub inverse-own : (y x : ℕ) → Byte (offsetsOf r e) y x → x < LIMIT → done (x ∷ []) ≡ inverseOf r e y
   unfolding inverseOf
   inverse-own y x B near =
       let is : placeOf r e y ≡ x = inverse-near (offsetsOf r e) y x B LIMIT near in
       ap (λ (n : ℕ). done (n ∷ [])) (sym is)
-      ∙ fault-passed _ _ 0 (row-absent FAR _ (lt-leb LIMIT (placeOf r e y) (omega (arith, is)))) refl ∙ element-on r e _ fine there
+      ∙ fault-passed _ _ 0 (row-absent FAR _ (lt-leb LIMIT (placeOf r e y) (omega (arith, is)))) refl ∙ element-on r e E _
 
 -- ---- an element was opened
 module _ {r : Reading} {e : ℕ} {s : Selection} {row : List ℕ} (O : Opened r e s row) where
   on : (next : Said) → next ≡ unlessElement r e next
-  on next = element-on r e next (O .fine) (O .there)
+  on next = element-on r e (O .element) next
 
   tests-from : (x n : ℕ) → n ≡ firstFault (offsetTests (s .from) x) → n ≡ firstFault (offsetTests (r .layout .displacement) x)
   tests-from x n q = q ∙ ap (λ (d : ℕ). firstFault (offsetTests d x)) (O .from)
@@ -93,23 +98,23 @@ module _ {r : Reading} {e : ℕ} {s : Selection} {row : List ℕ} (O : Opened r 
 
     -- ---- and one that is not: another element's, or this one's
     module _ (z : n ≡ 0) where
-      past-offset : (next : Said) → next ≡ unlessFault (offsetTests (r .layout .displacement) x) next
-      past-offset next = fault-passed next _ n (tests-from x n q) z
+      offset : OffsetFine r e x
+      offset = let K = offset-known (r .layout .displacement) x n (tests-from x n q) z in record { element = O .element; after = K .0; near = K .1 }
 
       module _ (b : Bool) (has : b ≡ belongs s row x) where
-        has-not : not b ≡ not (offsetsOf r e x)
-        has-not = ap not (has ∙ ap (λ (p : ℕ → Bool). p x) (O .is))
+        has-too : b ≡ offsetsOf r e x
+        has-too = has ∙ ap (λ (p : ℕ → Bool). p x) (O .is)
 
         pub exact-foreign : (f : Refusal) → f ≡ callRefusal FOREIGN 0 → not b ≡ true → refusalSays f ≡ exactOf r e x
         unfolding exactOf
-        exact-foreign f made foreign = fault-refused _ _ FOREIGN (row-there FOREIGN _ (sym has-not ∙ foreign)) f made (λ z. absurd (omega arith)) ∙ past-offset _ ∙ on _
+        exact-foreign f made foreign =
+            fault-refused _ _ FOREIGN (row-there FOREIGN _ (ap not (sym has-too) ∙ foreign)) f made (λ z. absurd (omega arith)) ∙ offset-on r e x offset _
 
         pub exact-at : (y : ℕ) → y ≡ countBelow (belongs s row) x → not b ≡ false → done (y ∷ []) ≡ exactOf r e x
-        exact-at y rank own = ap (λ (m : ℕ). done (m ∷ [])) (ranked x y rank) ∙ exact-own r e (O .fine) (O .there) x n (tests-from x n q) z (sym has-not ∙ own)
+        exact-at y rank own = ap (λ (m : ℕ). done (m ∷ [])) (ranked x y rank) ∙ exact-own offset (sym has-too ∙ not-false b own)
 
       pub next-at : (y : ℕ) → y ≡ countBelow (belongs s row) x → done (y ∷ []) ≡ nextOf r e x
-      unfolding nextOf
-      next-at y rank = ap (λ (m : ℕ). done (m ∷ [])) (ranked x y rank) ∙ past-offset _ ∙ on _
+      next-at y rank = ap (λ (m : ℕ). done (m ∷ [])) (ranked x y rank) ∙ next-any offset
 
   -- ---- the inverse: a byte with no file offset below the limit, and one that has it
   module _ (y : ℕ) where
@@ -126,7 +131,7 @@ module _ {r : Reading} {e : ℕ} {s : Selection} {row : List ℕ} (O : Opened r 
     inverse-beyond z x byte l h = no-place (inverse-far (offsetsOf r e) z x (rw (← (O .is)) byte) LIMIT h y l)
 
     pub inverse-at : (x : ℕ) → Byte (belongs s row) y x → x < LIMIT → done (x ∷ []) ≡ inverseOf r e y
-    inverse-at x byte h = inverse-own r e (O .fine) (O .there) y x (rw (← (O .is)) byte) h
+    inverse-at x byte h = inverse-own r e (O .element) y x (rw (← (O .is)) byte) h
 
   -- ---- the span
   module _ (a z n : ℕ) (q : n ≡ firstFault (intervalTests (s .from) a z)) where

@@ -1,7 +1,7 @@
 -- Layout C of 01, the panel: its sheet is accepted, and exact mapping of 9,864. By the laws, since it has too many offsets to compute. Assumes nothing.
 use mathlib.Core.Path.{_≡_, refl, sym, ap₂}
 use mathlib.Core.List.{List, [], _∷_}
-use Prim.Native.Nat.{ℕ, _≤_, _<_}
+use Prim.Native.Nat.{ℕ, _≤_}
 use native.Mathlib.Omega.{arith}
 use Rattle.counting.specs.Periodic.{owns}
 use Rattle.families.specs.Forest.{Forest, has}
@@ -15,6 +15,7 @@ use Rattle.sheets.proofs.Exactly.{good-read}
 use Rattle.maps.specs.Selected.{Byte}
 use Rattle.openings.specs.Said.{done}
 use Rattle.openings.specs.Offsets.{offsetsOf}
+use Rattle.openings.proofs.Opens.{ElementFine}
 use Rattle.astrephon.specs.Maps.{exactCall}
 use Rattle.astrephon.proofs.Mappings.{exact-byte}
 
@@ -58,13 +59,9 @@ panel-offsets = ap₂ (λ (n : ℕ) (F : Forest). owns 0 n (has F)) panel-size p
 panel-byte : Byte (offsetsOf (accepted 0 controllers) 1) 2464 9864
 panel-byte = rw panel-offsets (panel-has, panel-rank)
 
-panel-there : 1 < accepted 0 controllers .layout .elements
+panel-element : ElementFine (accepted 0 controllers) 1
 unfolding accepted layoutOf controllers
-panel-there = omega arith
-
-panel-fine : accepted 0 controllers .number ≡ 0
-unfolding accepted
-panel-fine = refl
+panel-element = record { fine = refl; there = omega arith }
 
 pub panel-exact : exactCall sheetC 1 9864 ≡ done (2464 ∷ [])
-panel-exact = rw panel-read (sym (exact-byte (accepted 0 controllers) 1 panel-fine panel-there 9864 2464 panel-byte (omega arith)))
+panel-exact = rw panel-read (sym (exact-byte (accepted 0 controllers) 1 panel-element 9864 2464 panel-byte (omega arith)))

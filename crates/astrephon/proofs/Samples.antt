@@ -2,7 +2,7 @@
 use mathlib.Core.Path.{_≡_, refl, sym, ap, ap₂, _∙_}
 use mathlib.Core.Bool.{Bool}
 use mathlib.Core.List.{List, [], _∷_}
-use Prim.Native.Nat.{ℕ, _≤_, _<_}
+use Prim.Native.Nat.{ℕ, _≤_}
 use native.Mathlib.Omega.{arith}
 use lib.ListN.{length}
 use Rattle.counting.specs.Count.{countBelow, stretch}
@@ -22,6 +22,7 @@ use Rattle.sheets.specs.Encode.{familyBytes, forestBytes, elementBytes, element
 use Rattle.openings.specs.Said.{Said, done, Outcome, writing}
 use Rattle.openings.specs.Offsets.{LIMIT, offsetsOf, windowTests, bothFrom, unlessWindows}
 use Rattle.openings.proofs.Orders.{fault-passed}
+use Rattle.openings.proofs.Opens.{ElementFine}
 use Rattle.openings.proofs.PairOpens.{elements-on}
 use Rattle.openings.proofs.Faults.{range-fine}
 use Rattle.runs.specs.Listing.{sharedRuns, listWith}
@@ -76,13 +77,13 @@ unfolding pairs singles width total flat totals flats elementsAt layoutOf sizes 
 offsets = (first-offsets _ _ 6 refl refl, first-offsets _ _ 4 refl refl, first-offsets _ _ 32 refl refl, first-offsets _ _ 32 refl refl)
 
 -- ---- shared runs of two such layouts, by those of their first elements
-first-there : (F : Forest) (Fs : List Forest) → 0 < accepted 0 (F ∷ Fs) .layout .elements
-unfolding accepted layoutOf
-first-there F Fs = omega arith
-
 pub no-fault-read : (Fs : List Forest) → accepted 0 Fs .number ≡ 0
 unfolding accepted
 no-fault-read Fs = refl
+
+first-fine : (F : Forest) (Fs : List Forest) → ElementFine (accepted 0 (F ∷ Fs)) 0
+unfolding accepted layoutOf
+first-fine F Fs = record { fine = no-fault-read (F ∷ Fs); there = omega arith }
 
 from-zero : (Fs Gs : List Forest) (b : ℕ) → b ≤ LIMIT → 0 ≡ firstFault (windowTests (bothFrom (accepted 0 Fs) (accepted 0 Gs)) 0 b)
 unfolding accepted layoutOf
@@ -91,7 +92,7 @@ from-zero Fs Gs b near = range-fine LIMIT 0 0 b (omega arith) (omega arith) near
 windows-on : (F G : Forest) (Fs Gs : List Forest) (b : ℕ) → b ≤ LIMIT → (next : Said) → next ≡ unlessWindows (accepted 0 (F ∷ Fs)) (accepted 0 (G ∷ Gs)) 0 0 0 b next
 windows-on F G Fs Gs b near next =
     fault-passed next _ 0 (from-zero (F ∷ Fs) (G ∷ Gs) b near) refl
-    ∙ elements-on (accepted 0 (F ∷ Fs)) (accepted 0 (G ∷ Gs)) 0 0 _ (no-fault-read (F ∷ Fs)) (no-fault-read (G ∷ Gs)) (first-there F Fs) (first-there G Gs)
+    ∙ elements-on (accepted 0 (F ∷ Fs)) (accepted 0 (G ∷ Gs)) 0 0 (first-fine F Fs) (first-fine G Gs) _
 
 -- what the call does once its window is checked, of any two tests
 unfoldable pub listedOf : (p q : ℕ → Bool) → (b : ℕ) → (held : List ℕ) → Outcome

@@ -66,7 +66,7 @@ module _ (m : contracts.Made 3) (xs ys : List ℕ) (i j a b : ℕ) (held later :
   shared-says n p =
       let runs = runsOfPair r1 r2 i j a b in
       let there = elements-through r1 r2 i j (sym (p .0)) in
-      let window = fault-through (windowTests (bothFrom r1 r2) a b) (there .4) in
+      let window = fault-through (windowTests (bothFrom r1 r2) a b) (there .2) in
       let room = room-through (length runs) held (window .1) in
       let count : length runs ≡ n = same-value (room .1) in
       (sym count, omega (arith, room .0), p .1 ∙ left-written held (listWith (offsetsOf r1 i) (offsetsOf r2 j) runs held) (p .0))
@@ -80,5 +80,5 @@ module _ (m : contracts.Made 3) (xs ys : List ℕ) (i j a b : ℕ) (held later :
       let refuses =
       room-refused n held (done (n ∷ [])) short (callRefusal ROOM n) refl
       ∙ fault-passed _ (windowTests (bothFrom r1 r2) a b) 0 (range-fine LIMIT _ a b (W .forward) (omega (arith, X .after, Y .after)) (W .near)) refl
-      ∙ elements-on r1 r2 i j _ (X .fine) (Y .fine) first second in
+      ∙ elements-on r1 r2 i j (record { fine = X .fine; there = first }) (record { fine = Y .fine; there = second }) _ in
       (listed-same r (Refused (callRefusal ROOM n)) (p .0 ∙ sym refuses), p .1 ∙ left-held held _ refuses)

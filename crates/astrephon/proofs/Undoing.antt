@@ -20,10 +20,10 @@ use Rattle.maps.specs.Selected.{Byte, ranks}
 use Rattle.maps.proofs.BytesOf.{next-is}
 use Rattle.maps.proofs.Sharing.{ranks-sum}
 use Rattle.openings.specs.Said.{done}
-use Rattle.openings.specs.Refusals.{BEFORE, FAR, FOREIGN}
-use Rattle.openings.specs.Offsets.{LIMIT, offsetsOf, rankOf, placeOf, offsetTests}
+use Rattle.openings.specs.Refusals.{FAR, FOREIGN}
+use Rattle.openings.specs.Offsets.{LIMIT, offsetsOf, rankOf, placeOf}
 use Rattle.openings.proofs.Orders.{fault-through, same-value}
-use Rattle.openings.proofs.Opens.{element-through}
+use Rattle.openings.proofs.Opens.{ElementFine, OffsetFine, element-through, offset-through}
 use Rattle.astrephon.specs.declared.Mapped.{Mapped}
 use Rattle.astrephon.specs.declared.Mapped.the-variants as mapped
 use Rattle.astrephon.specs.declared.Located.{Located}
@@ -35,52 +35,44 @@ use Rattle.astrephon.proofs.Saying.{mapped-same, located-same}
 use Rattle.astrephon.proofs.Mappings.{exact-byte, inverse-own}
 use Rattle.astrephon.proofs.Trays.{elements-map}
 
--- ---- where a call did its work the sheet is accepted and has the element
-record Answered (r : Reading) (e : ℕ) : Type 0 where
-  fine : r .number ≡ 0
-  there : e < r .layout .elements
-
 -- ---- what exact mapping says, next mapping, and the inverse
 module _ (r : Reading) (e : ℕ) where
-  exact-says : (x y : ℕ) → exactOf r e x ≡ done (y ∷ []) → Answered r e × Byte (offsetsOf r e) y x × (x < LIMIT)
+  exact-says : (x y : ℕ) → exactOf r e x ≡ done (y ∷ []) → OffsetFine r e x × Byte (offsetsOf r e) y x
   unfolding exactOf
   exact-says x y q =
-      let element = element-through r e q in
-      let offset = fault-through (offsetTests (r .layout .displacement) x) (element .2) in
+      let offset = offset-through r e x q in
       let own = fault-through ((FOREIGN when not (offsetsOf r e x)) ∷ []) (offset .1) in
-      let near = no-fault FAR _ _ (omega arith) (no-fault BEFORE _ _ (omega arith) (offset .0) .1) in (
-        record { fine = element .0; there = element .1 },
-        (not-false (offsetsOf r e x) (no-fault FOREIGN _ _ (omega arith) (own .0) .0), same-value (own .1)),
-        omega (arith, leb-false LIMIT x (near .0)),
-      )
+      (offset .0, (not-false (offsetsOf r e x) (no-fault FOREIGN _ _ (omega arith) (own .0) .0), same-value (own .1)))
 
-  next-says : (x y : ℕ) → nextOf r e x ≡ done (y ∷ []) → Answered r e × (rankOf r e x ≡ y)
+  pub next-says : (x y : ℕ) → nextOf r e x ≡ done (y ∷ []) → OffsetFine r e x × (rankOf r e x ≡ y)
   unfolding nextOf
-  next-says x y q =
-      let element = element-through r e q in
-      (record { fine = element .0; there = element .1 }, same-value (fault-through (offsetTests (r .layout .displacement) x) (element .2) .1))
+  next-says x y q = let offset = offset-through r e x q in (offset .0, same-value (offset .1))
 
-  inverse-says : (y x : ℕ) → inverseOf r e y ≡ done (x ∷ []) → Answered r e × Byte (offsetsOf r e) y x × (x < LIMIT)
+  pub inverse-says : (y x : ℕ) → inverseOf r e y ≡ done (x ∷ []) → ElementFine r e × (placeOf r e y ≡ x) × (x < LIMIT)
   unfolding inverseOf
   inverse-says y x q =
       let element = element-through r e q in
-      let place = fault-through ((FAR when leb LIMIT (placeOf r e y)) ∷ []) (element .2) in
+      let place = fault-through ((FAR when leb LIMIT (placeOf r e y)) ∷ []) (element .1) in
       let is : placeOf r e y ≡ x = same-value (place .1) in
-      let near : placeOf r e y < LIMIT = omega (arith, leb-false LIMIT (placeOf r e y) (no-fault FAR _ _ (omega arith) (place .0) .0)) in
-      let F = nth-found (offsetsOf r e) LIMIT y (nth-exactly (offsetsOf r e) LIMIT y .0 near) in
-      (record { fine = element .0; there = element .1 }, (ap (offsetsOf r e) (sym is) ∙ F .passes, ap (rankOf r e) (sym is) ∙ F .rank), omega (arith, is))
+      (element .0, is, omega (arith, is, leb-false LIMIT (placeOf r e y) (no-fault FAR _ _ (omega arith) (place .0) .0)))
+
+  -- the place is the byte's
+  pub place-byte : (y x : ℕ) → placeOf r e y ≡ x → x < LIMIT → Byte (offsetsOf r e) y x
+  place-byte y x is near =
+      let F = nth-found (offsetsOf r e) LIMIT y (nth-exactly (offsetsOf r e) LIMIT y .0 (omega (arith, is))) in
+      (ap (offsetsOf r e) (sym is) ∙ F .passes, ap (rankOf r e) (sym is) ∙ F .rank)
 
 -- ---- EXACT MAPPING AND INVERSE undo each other: where one is accepted so is the other, and it gives back what was asked
 module _ (xs : List ℕ) (e : ℕ) where
   pub inverse-of : (x y : ℕ) → exactCall xs e x ≡ done (y ∷ []) → inverseCall xs e y ≡ done (x ∷ [])
   inverse-of x y q =
       let S = exact-says (readSheet xs) e x y q in
-      sym (inverse-own (readSheet xs) e (S .0 .fine) (S .0 .there) y x (S .1) (S .2))
+      sym (inverse-own (readSheet xs) e (S .0 .element) y x (S .1) (S .0 .near))
 
   exact-of : (y x : ℕ) → inverseCall xs e y ≡ done (x ∷ []) → exactCall xs e x ≡ done (y ∷ [])
   exact-of y x q =
       let S = inverse-says (readSheet xs) e y x q in
-      sym (exact-byte (readSheet xs) e (S .0 .fine) (S .0 .there) x y (S .1) (S .2))
+      sym (exact-byte (readSheet xs) e (S .0) x y (place-byte (readSheet xs) e y x (S .1) (S .2)) (S .2))
 
   module _ (m m′ : Made 1) where
     pub exact-then-inverse : (x : FileOffset) (y : SubfileOffset) (r : Located) → Exact m xs e (x .0) (mapped.At y) → Inverse m′ xs e (y .0) r → r ≡ located.At x
@@ -95,7 +87,7 @@ module _ (xs : List ℕ) (e : ℕ) where
     next-then-exact x z y r p h near own none q =
         let S = next-says (readSheet xs) e x (y .0) (sym p) in
         let B = next-is (offsetsOf (readSheet xs) e) x z h own none in
-        mapped-same r (mapped.At y) (q ∙ sym (exact-byte (readSheet xs) e (S .0 .fine) (S .0 .there) z (y .0) (own, B .1 ∙ S .1) near))
+        mapped-same r (mapped.At y) (q ∙ sym (exact-byte (readSheet xs) e (S .0 .element) z (y .0) (own, B .1 ∙ S .1) near))
 
 -- ---- THE RANKS of x in all elements of an accepted sheet sum to what lies between the displacement and x
 pub ranks-share : (xs : List ℕ) (x : ℕ) → let r = readSheet xs in r .number ≡ 0 → ranks (elementsRead r) x ≡ x - r .layout .displacement

@@ -24,6 +24,13 @@ module _ (from x : ℕ) where
   unfolding firstFault
   offset-fine h l = rw (le-ltb _ _ h, lt-leb _ _ l) refl
 
+  -- and what is known where none does
+  pub offset-known : (n : ℕ) → n ≡ firstFault (offsetTests from x) → n ≡ 0 → (from ≤ x) × (x < LIMIT)
+  offset-known n e z =
+      let before = no-fault BEFORE _ _ (omega arith) (sym e ∙ z) in
+      let far = no-fault FAR _ _ (omega arith) (before .1) in
+      (ltb-false x from (before .0), omega (arith, leb-false LIMIT x (far .0)))
+
 module _ (most from a b : ℕ) where
   pub range-back : b < a → WINDOW ≡ firstFault (rangeTests most from a b)
   unfolding firstFault
@@ -42,7 +49,6 @@ module _ (most from a b : ℕ) where
     unfolding firstFault
     range-fine h l = rw (le-ltb _ _ forward, le-ltb _ _ h, le-ltb _ _ l) refl
 
-  -- and what is known where none does
   pub range-known : (n : ℕ) → n ≡ firstFault (rangeTests most from a b) → n ≡ 0 → (a ≤ b) × (from ≤ a) × (b ≤ most)
   range-known n e z =
       let back = no-fault WINDOW _ _ (omega arith) (sym e ∙ z) in

@@ -17,33 +17,33 @@ use Rattle.maps.specs.Selected.{familiesOf, belongs, Selection·ok, selectionOf
 use Rattle.maps.proofs.Chosen.{families-tree, selection-ok, accepted-pattern, belongs-tree}
 use Rattle.openings.specs.declared.Opening.{Opening}
 use Rattle.openings.specs.Said.{Said, done}
-use Rattle.openings.specs.Refusals.{ELEMENT}
-use Rattle.openings.specs.Offsets.{LIMIT, offsetsOf, elementTest, windowTests, unlessElement, unlessWindow}
+use Rattle.openings.specs.Refusals.{ELEMENT, unlessFault}
+use Rattle.openings.specs.Offsets.{LIMIT, offsetsOf, elementTest, offsetTests, windowTests, unlessElement, unlessWindow}
 use Rattle.openings.specs.Buffers.{packedLength, bufferTests, unlessBuffers}
 use Rattle.openings.specs.Openings.{Chosen, Opens}
 use Rattle.openings.proofs.Orders.{row-absent, sheet-passed, fault-passed, sheet-through, fault-through}
 use Rattle.openings.proofs.Verdicts.{verdict-none}
-use Rattle.openings.proofs.Faults.{range-fine, range-known, buffer-fine, buffer-known}
+use Rattle.openings.proofs.Faults.{offset-fine, offset-known, range-fine, range-known, buffer-fine, buffer-known}
 
 -- ---- an accepted sheet: its layout meets the rules
 pub layout-rules : (xs : List ℕ) (r : Reading) → r ≡ readSheet xs → r .number ≡ 0 → Layout·ok 4 65535 (r .layout)
 layout-rules xs r read fine = rw read (accepted-law xs (ap (λ (s : Reading). s .number) (sym read) ∙ fine) .ok)
 
 -- ---- WHAT THE CHECKS LET THROUGH: where all is as they ask every call goes on, and a call that did its work had it so
-module _ (r : Reading) (e : ℕ) where
-  pub element-on : (next : Said) → r .number ≡ 0 → e < r .layout .elements → next ≡ unlessElement r e next
-  element-on next fine h = fault-passed next (elementTest (r .layout .elements) e ∷ []) 0 (row-absent ELEMENT _ (lt-leb _ _ h)) refl ∙ sheet-passed _ 1 r fine
-
-  pub element-through : {next : Said} {values : List ℕ} → unlessElement r e next ≡ done values → (r .number ≡ 0) × (e < r .layout .elements) × (next ≡ done values)
-  element-through q =
-      let sheet = sheet-through 1 r q in
-      let element = fault-through (elementTest (r .layout .elements) e ∷ []) (sheet .1) in
-      (sheet .0, omega (arith, leb-false (r .layout .elements) e (no-fault ELEMENT _ _ (omega arith) (element .0) .0)), element .1)
-
--- a window of an element
-pub record WindowFine (r : Reading) (e a b : ℕ) : Type 0 where
+-- an element of an accepted sheet
+pub record ElementFine (r : Reading) (e : ℕ) : Type 0 where
   pub fine : r .number ≡ 0
   pub there : e < r .layout .elements
+
+-- .. a file offset
+pub record OffsetFine (r : Reading) (e x : ℕ) : Type 0 where
+  pub element : ElementFine r e
+  pub after : r .layout .displacement ≤ x
+  pub near : x < LIMIT
+
+-- .. a window
+pub record WindowFine (r : Reading) (e a b : ℕ) : Type 0 where
+  pub element : ElementFine r e
   pub forward : a ≤ b
   pub after : r .layout .displacement ≤ a
   pub near : b ≤ LIMIT
@@ -54,19 +54,42 @@ pub record BuffersFine (r : Reading) (e a b file packed : ℕ) : Type 0 where
   pub file-long : file ≡ b - a
   pub packed-long : packed ≡ packedLength r e a b
 
-module _ (r : Reading) (e a b : ℕ) where
+module _ (r : Reading) (e : ℕ) where
   abbrev d : ℕ
   d = r .layout .displacement
 
+  pub element-on : ElementFine r e → (next : Said) → next ≡ unlessElement r e next
+  element-on E next =
+      fault-passed next (elementTest (r .layout .elements) e ∷ []) 0 (row-absent ELEMENT _ (lt-leb _ _ (E .there))) refl ∙ sheet-passed _ 1 r (E .fine)
+
+  pub element-through : {next : Said} {values : List ℕ} → unlessElement r e next ≡ done values → ElementFine r e × (next ≡ done values)
+  element-through q =
+      let sheet = sheet-through 1 r q in
+      let element = fault-through (elementTest (r .layout .elements) e ∷ []) (sheet .1) in
+      let there : e < r .layout .elements = omega (arith, leb-false (r .layout .elements) e (no-fault ELEMENT _ _ (omega arith) (element .0) .0)) in
+      (record { fine = sheet .0; there = there }, element .1)
+
+  module _ (x : ℕ) where
+    pub offset-on : OffsetFine r e x → (next : Said) → next ≡ unlessElement r e (unlessFault (offsetTests d x) next)
+    offset-on X next = fault-passed next _ 0 (offset-fine d x (X .after) (X .near)) refl ∙ element-on (X .element) _
+
+    pub offset-through : {next : Said} {values : List ℕ} → unlessElement r e (unlessFault (offsetTests d x) next) ≡ done values → OffsetFine r e x × (next ≡ done values)
+    offset-through q =
+        let element = element-through q in
+        let offset = fault-through (offsetTests d x) (element .1) in
+        let K = offset-known d x 0 (sym (offset .0)) refl in
+        (record { element = element .0; after = K .0; near = K .1 }, offset .1)
+
+module _ (r : Reading) (e a b : ℕ) where
   window-on : WindowFine r e a b → (next : Said) → next ≡ unlessWindow r e a b next
-  window-on W next = fault-passed next _ 0 (range-fine LIMIT d a b (W .forward) (W .after) (W .near)) refl ∙ element-on r e _ (W .fine) (W .there)
+  window-on W next = fault-passed next _ 0 (range-fine LIMIT _ a b (W .forward) (W .after) (W .near)) refl ∙ element-on r e (W .element) _
 
   pub window-through : {next : Said} {values : List ℕ} → unlessWindow r e a b next ≡ done values → WindowFine r e a b × (next ≡ done values)
   window-through q =
       let element = element-through r e q in
-      let window = fault-through (windowTests d a b) (element .2) in
-      let K = range-known LIMIT d a b 0 (sym (window .0)) refl in
-      (record { fine = element .0; there = element .1; forward = K .0; after = K .1; near = K .2 }, window .1)
+      let window = fault-through (windowTests (r .layout .displacement) a b) (element .1) in
+      let K = range-known LIMIT (r .layout .displacement) a b 0 (sym (window .0)) refl in
+      (record { element = element .0; forward = K .0; after = K .1; near = K .2 }, window .1)
 
   module _ (file packed : ℕ) where
     abbrev count : ℕ
@@ -84,8 +107,7 @@ module _ (r : Reading) (e a b : ℕ) where
 
 -- ---- WHAT A CALL KNOWS of an element that was opened
 pub record Opened (r : Reading) (e : ℕ) (s : Selection) (row : List ℕ) : Type 0 where
-  pub fine : r .number ≡ 0
-  pub there : e < r .layout .elements
+  pub element : ElementFine r e
   pub ok : Selection·ok s row
   pub ruled : WF 0 65535 (familiesOf s row)
   pub short : s .period ≤ 65536
@@ -104,24 +126,21 @@ belongs-offsets : (r : Reading) (e : ℕ) → belongs (selectionOf (r .layout) (
 unfolding offsetsOf
 belongs-offsets r e = belongs-tree (r .layout) e (r .size)
 
-pub chosen-known : (xs : List ℕ) (e : ℕ) {s : Selection} {row : List ℕ} → let r = readSheet xs in Chosen r e s row → r .number ≡ 0 → e < r .layout .elements → Opened r e s row
-chosen-known xs e C z h =
+pub chosen-known : (xs : List ℕ) (e : ℕ) {s : Selection} {row : List ℕ} → let r = readSheet xs in Chosen r e s row → ElementFine r e → Opened r e s row
+chosen-known xs e C E =
     let r = readSheet xs in
-    let A = accepted-law xs z in
+    let A = accepted-law xs (E .fine) in
     record {
-      fine = z;
-      there = h;
-      ok = rw (C .selection, C .laid) (selection-ok (r .layout) (r .size) (accepted-pattern r A) e h);
-      ruled = rw (C .selection, C .laid) (rw (families-tree (r .layout) e (r .size)) (A .ok .ruled e h));
+      element = E;
+      ok = rw (C .selection, C .laid) (selection-ok (r .layout) (r .size) (accepted-pattern r A) e (E .there));
+      ruled = rw (C .selection, C .laid) (rw (families-tree (r .layout) e (r .size)) (A .ok .ruled e (E .there)));
       short = rw (C .selection) (period-short r e (A .most));
       from = ap (λ (t : Selection). t .from) (C .selection) ∙ from-displacement r e;
       is = rw (C .selection, C .laid) (belongs-offsets r e);
     }
 
 pub opened : (xs : List ℕ) (e : ℕ) {o : Opening} {row : List ℕ} → let r = readSheet xs in Opens (unlessElement r e) r e o row → o .refusal .number ≡ 0 → Opened r e (o .selection) row
-opened xs e O z =
-    let element = element-through (readSheet xs) e (sym (verdict-none (O .verdict) z (done []))) in
-    chosen-known xs e (O .chosen z) (element .0) (element .1)
+opened xs e O z = chosen-known xs e (O .chosen z) (element-through (readSheet xs) e (sym (verdict-none (O .verdict) z (done []))) .0)
 
 -- ---- WHAT A CALL KNOWS of a window that was opened
 pub record Windowed (r : Reading) (e a b : ℕ) (s : Selection) (row : List ℕ) : Type 0 where
@@ -132,7 +151,7 @@ pub record Windowed (r : Reading) (e a b : ℕ) (s : Selection) (row : List ℕ)
 
 window-known : (xs : List ℕ) {e a b : ℕ} {s : Selection} {row : List ℕ} → let r = readSheet xs in Chosen r e s row → WindowFine r e a b → Windowed r e a b s row
 window-known xs {e} C W =
-    let K = chosen-known xs e C (W .fine) (W .there) in
+    let K = chosen-known xs e C (W .element) in
     record { opened = K; forward = W .forward; after = omega (arith, W .after, K .from); near = W .near }
 
 pub windowed : (xs : List ℕ) (e a b : ℕ) {o : Opening} {row : List ℕ} → let r = readSheet xs in Opens (unlessWindow r e a b) r e o row → o .refusal .number ≡ 0

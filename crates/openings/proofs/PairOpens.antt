@@ -1,7 +1,7 @@
 -- Opening two sheets, and an element of each: what the code gives in each case, and what a call knows of what was opened. Assumes nothing.
 use mathlib.Core.Path.{_≡_, refl, sym, ap, ap₂, _∙_}
 use mathlib.Core.List.{List, []}
-use Prim.Native.Nat.{ℕ, _≤_, _<_}
+use Prim.Native.Nat.{ℕ, _≤_}
 use native.Mathlib.Omega.{arith}
 use Rattle.families.specs.Decoded.{rowOf, Layout·ok}
 use Rattle.sheets.specs.declared.Reading.{Reading}
@@ -19,7 +19,7 @@ use Rattle.openings.specs.Openings.{Verdict, OpensPair, OpensSheets}
 use Rattle.openings.proofs.Orders.{sheet-passed, fault-passed, sheet-through, fault-through}
 use Rattle.openings.proofs.Verdicts.{sheet-verdict, fault-verdict, no-verdict, verdict-none, still, after}
 use Rattle.openings.proofs.Faults.{range-known, pair-fine, pair-known}
-use Rattle.openings.proofs.Opens.{layout-rules, Opened, chosen-known}
+use Rattle.openings.proofs.Opens.{layout-rules, ElementFine, Opened, chosen-known}
 
 -- ---- both are accepted: every call goes on; and a call that did its work had two that are
 pub sheets-on : (next : Said) (r1 r2 : Reading) → r1 .number ≡ 0 → r2 .number ≡ 0 → next ≡ unlessSheets r1 r2 next
@@ -108,17 +108,16 @@ module _ (r1 r2 : Reading) (i j a b : ℕ) (o : Sheets) (S : OpensSheets r1 r2 o
 
 -- ---- both elements are there: every call goes on; and a call that did its work had two that are
 module _ (r1 r2 : Reading) (i j : ℕ) where
-  pub elements-on : (next : Said) → r1 .number ≡ 0 → r2 .number ≡ 0 → i < r1 .layout .elements → j < r2 .layout .elements → next ≡ unlessElements r1 r2 i j next
-  elements-on next fine1 fine2 there1 there2 =
-      fault-passed next _ 0 (pair-fine (r1 .layout .elements) i (r2 .layout .elements) j there1 there2) refl ∙ sheets-on _ r1 r2 fine1 fine2
+  pub elements-on : ElementFine r1 i → ElementFine r2 j → (next : Said) → next ≡ unlessElements r1 r2 i j next
+  elements-on E1 E2 next =
+      fault-passed next _ 0 (pair-fine (r1 .layout .elements) i (r2 .layout .elements) j (E1 .there) (E2 .there)) refl ∙ sheets-on _ r1 r2 (E1 .fine) (E2 .fine)
 
-  pub elements-through : {next : Said} {values : List ℕ} → unlessElements r1 r2 i j next ≡ done values
-      → (r1 .number ≡ 0) × (r2 .number ≡ 0) × (i < r1 .layout .elements) × (j < r2 .layout .elements) × (next ≡ done values)
+  pub elements-through : {next : Said} {values : List ℕ} → unlessElements r1 r2 i j next ≡ done values → ElementFine r1 i × ElementFine r2 j × (next ≡ done values)
   elements-through q =
       let P = sheets-through r1 r2 q in
       let E = fault-through (pairTests (r1 .layout .elements) i (r2 .layout .elements) j) (P .2) in
       let K = pair-known (r1 .layout .elements) i (r2 .layout .elements) j 0 (sym (E .0)) refl in
-      (P .0, P .1, K .0, K .1, E .1)
+      (record { fine = P .0; there = K .0 }, record { fine = P .1; there = K .1 }, E .1)
 
 -- ---- WHAT A CALL KNOWS of a pair that was opened
 pub record Paired (r1 r2 : Reading) (i j a b : ℕ) (s1 s2 : Selection) (row1 row2 : List ℕ) : Type 0 where
@@ -136,7 +135,7 @@ paired xs ys i j a b O z =
     let r2 = readSheet ys in
     let d = bothFrom r1 r2 in
     let P = elements-through r1 r2 i j (sym (verdict-none (O .verdict) z (done []))) in
-    let one = chosen-known xs i (O .one z) (P .0) (P .2) in
-    let two = chosen-known ys j (O .two z) (P .1) (P .3) in
-    let K = range-known LIMIT d a b 0 (sym (fault-through (windowTests d a b) (P .4) .0)) refl in
+    let one = chosen-known xs i (O .one z) (P .0) in
+    let two = chosen-known ys j (O .two z) (P .1) in
+    let K = range-known LIMIT d a b 0 (sym (fault-through (windowTests d a b) (P .2) .0)) refl in
     record { one = one; two = two; forward = K .0; after1 = omega (arith, K .1, one .from); after2 = omega (arith, K .1, two .from); near = K .2 }
