@@ -11,6 +11,7 @@ pub mod Unique
 pub mod Refusing
 pub mod Exactly
 pub mod Undoing
+pub mod Marks
 pub mod Sequences
 pub mod Accepting
 pub mod Trays
