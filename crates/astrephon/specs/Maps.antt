@@ -8,19 +8,15 @@ use Rattle.sheets.specs.Refusals.{_when_}
 use Rattle.sheets.specs.Sheet.{readSheet}
 use Rattle.openings.specs.Said.{Said, done}
 use Rattle.openings.specs.Refusals.{FAR, FOREIGN, unlessFault}
-use Rattle.openings.specs.Offsets.{LIMIT, offsetsOf, rankOf, placeOf, offsetTests, intervalTests, unlessElement}
+use Rattle.openings.specs.Offsets.{LIMIT, offsetsOf, rankOf, placeOf, intervalTests, unlessElement, unlessOffset}
 
 -- EXACT MAPPING: the rank of an offset of the element
 unfoldable pub exactOf : Reading → (e x : ℕ) → Said
-exactOf r e x =
-    unlessElement r e
-    (unlessFault (offsetTests (r .layout .displacement) x)
-    (unlessFault ((FOREIGN when not (offsetsOf r e x)) ∷ [])
-    (done (rankOf r e x ∷ []))))
+exactOf r e x = unlessOffset r e x (unlessFault ((FOREIGN when not (offsetsOf r e x)) ∷ []) (done (rankOf r e x ∷ [])))
 
 -- NEXT MAPPING: the rank of any offset, which is the subfile offset of the element's next byte
 unfoldable pub nextOf : Reading → (e x : ℕ) → Said
-nextOf r e x = unlessElement r e (unlessFault (offsetTests (r .layout .displacement) x) (done (rankOf r e x ∷ [])))
+nextOf r e x = unlessOffset r e x (done (rankOf r e x ∷ []))
 
 -- INVERSE MAPPING: the file offset of byte y of the subfile
 unfoldable pub inverseOf : Reading → (e y : ℕ) → Said

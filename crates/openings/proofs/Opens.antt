@@ -17,8 +17,8 @@ use Rattle.maps.specs.Selected.{familiesOf, belongs, Selection·ok, selectionOf
 use Rattle.maps.proofs.Chosen.{families-tree, selection-ok, accepted-pattern, belongs-tree}
 use Rattle.openings.specs.declared.Opening.{Opening}
 use Rattle.openings.specs.Said.{Said, done}
-use Rattle.openings.specs.Refusals.{ELEMENT, unlessFault}
-use Rattle.openings.specs.Offsets.{LIMIT, offsetsOf, elementTest, offsetTests, windowTests, unlessElement, unlessWindow}
+use Rattle.openings.specs.Refusals.{ELEMENT}
+use Rattle.openings.specs.Offsets.{LIMIT, offsetsOf, elementTest, offsetTests, windowTests, unlessElement, unlessOffset, unlessWindow}
 use Rattle.openings.specs.Buffers.{packedLength, bufferTests, unlessBuffers}
 use Rattle.openings.specs.Openings.{Chosen, Opens}
 use Rattle.openings.proofs.Orders.{row-absent, sheet-passed, fault-passed, sheet-through, fault-through}
@@ -70,10 +70,10 @@ module _ (r : Reading) (e : ℕ) where
       (record { fine = sheet .0; there = there }, element .1)
 
   module _ (x : ℕ) where
-    pub offset-on : OffsetFine r e x → (next : Said) → next ≡ unlessElement r e (unlessFault (offsetTests d x) next)
+    pub offset-on : OffsetFine r e x → (next : Said) → next ≡ unlessOffset r e x next
     offset-on X next = fault-passed next _ 0 (offset-fine d x (X .after) (X .near)) refl ∙ element-on (X .element) _
 
-    pub offset-through : {next : Said} {values : List ℕ} → unlessElement r e (unlessFault (offsetTests d x) next) ≡ done values → OffsetFine r e x × (next ≡ done values)
+    pub offset-through : {next : Said} {values : List ℕ} → unlessOffset r e x next ≡ done values → OffsetFine r e x × (next ≡ done values)
     offset-through q =
         let element = element-through q in
         let offset = fault-through (offsetTests d x) (element .1) in

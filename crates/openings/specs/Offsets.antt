@@ -61,7 +61,10 @@ windowTests d a b = rangeTests LIMIT d a b
 abbrev pub bothFrom : (r1 r2 : Reading) → ℕ
 bothFrom r1 r2 = max (r1 .layout .displacement) (r2 .layout .displacement)
 
--- an element and a window; and an element of each of two sheets and a window of both
+-- an element and a file offset; an element and a window; and an element of each of two sheets and a window of both
+abbrev pub unlessOffset : Reading → (e x : ℕ) → (next : Said) → Said
+unlessOffset r e x next = unlessElement r e (unlessFault (offsetTests (r .layout .displacement) x) next)
+
 abbrev pub unlessWindow : Reading → (e a b : ℕ) → (next : Said) → Said
 unlessWindow r e a b next = unlessElement r e (unlessFault (windowTests (r .layout .displacement) a b) next)
 
