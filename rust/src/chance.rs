@@ -110,6 +110,16 @@ fn element_index(random: &mut Random, index: usize) -> u64 {
     }
 }
 
+/// A file offset that is accepted.
+pub fn accepted_offset(random: &mut Random, element: &Element) -> u64 {
+    loop {
+        let x = file_offset(random, element);
+        if (element.displacement()..END).contains(&x) {
+            return x;
+        }
+    }
+}
+
 /// Mostly an offset that is accepted: near the displacement, near a pattern's border, anywhere, or among the last.
 fn file_offset(random: &mut Random, element: &Element) -> u64 {
     let (d, p) = (element.displacement(), element.period());
@@ -130,7 +140,7 @@ fn file_offset(random: &mut Random, element: &Element) -> u64 {
 }
 
 /// Mostly a byte below 2^40: of the first patterns, anywhere, or among the last; and those that are too far.
-fn subfile_offset(random: &mut Random, element: &Element) -> u64 {
+pub fn subfile_offset(random: &mut Random, element: &Element) -> u64 {
     let (size, past) = (element.size(), element.rank(END));
     match random.below(16) {
         0 => past,

@@ -3,9 +3,10 @@
 
 use crate::buffers::{is_sound, Window};
 use crate::chance;
-use crate::element::Element;
-use crate::frame::{Answer, Frame};
+use crate::element::{Element, END};
+use crate::frame::{Answer, Frame, INVERSE, NEXT};
 use crate::random::Random;
+use crate::refusal::FAR;
 use crate::spelled;
 use crate::write::sheet;
 
@@ -16,11 +17,17 @@ pub const GATHER_THEN_SCATTER: &str = "scattering what was just gathered changes
 pub const SCATTER_THEN_GATHER: &str = "gathering what was just scattered gives the packed bytes back";
 pub const SCATTER_THEN_SCATTER: &str = "of two scatters to the same element the later alone counts";
 pub const SCATTERS_IN_EITHER_ORDER: &str = "scatters to two different elements give the same file buffer in either order";
+pub const NEXT_AT_MOST: &str = "next mapping of x is at most y exactly when x is at most the inverse of y";
+pub const NEXT_AT_MOST_FAR: &str = "next mapping of x is at most y where the inverse of y is refused";
 
 /// Tries every law on `count` layouts by chance, and tells the first that is broken.
 pub fn try_all(seed: u64, count: usize, ask: Ask) -> Result<(), String> {
     let random = &mut Random::new(seed);
-    (0..count).try_for_each(|_| gather_and_scatter(random, ask))
+    for _ in 0..count {
+        gather_and_scatter(random, ask)?;
+        marks_and_cuts(random, ask)?;
+    }
+    Ok(())
 }
 
 /// 02's W11, on one layout and window.
@@ -42,6 +49,54 @@ fn gather_and_scatter(random: &mut Random, ask: Ask) -> Result<(), String> {
         let turned = accepted(ask, &scatter(j, &other, &file))?.into;
         let both = accepted(ask, &scatter(i, &first, &turned))?.into;
         leaves(ask, SCATTERS_IN_EITHER_ORDER, &scatter(j, &other, &scattered), &both)?;
+    }
+    Ok(())
+}
+
+/// 02's W13, on one element of a layout: a mark x and a cut y by chance, and then marks about the cut and cuts about the mark, each with each.
+fn marks_and_cuts(random: &mut Random, ask: Ask) -> Result<(), String> {
+    let layout = chance::accepted(random);
+    let index = random.index(layout.elements.len());
+    let element = Element::of(&layout, index);
+    let (x, y) = (chance::accepted_offset(random, &element), chance::subfile_offset(random, &element));
+    let (sheet, offsets) = (sheet(&layout), element.displacement()..END);
+    let next = |x| Frame::mapping(NEXT, sheet.clone(), index as u64, x);
+    let inverse = |y| Frame::mapping(INVERSE, sheet.clone(), index as u64, y);
+    let mut asked = |frame: Frame, refusal| accepted_or(ask, &frame, refusal).map(|answer| Asked { frame, answer });
+
+    let mut marks = vec![asked(next(x), 0)?];
+    let mut cuts = vec![asked(inverse(y), FAR)?];
+    for y in about(marks[0].answer.value) {
+        cuts.push(asked(inverse(y), FAR)?);
+    }
+    // A cut that is FAR gives the value 0: a mark about that does as well.
+    for x in about(cuts[0].answer.value).filter(|x| offsets.contains(x)) {
+        marks.push(asked(next(x), 0)?);
+    }
+    marks.iter().try_for_each(|mark| cuts.iter().try_for_each(|cut| falls(mark, cut)))
+}
+
+/// A call, and what was answered.
+struct Asked {
+    frame: Frame,
+    answer: Answer,
+}
+
+/// A number and its neighbours.
+fn about(number: u64) -> impl Iterator<Item = u64> {
+    number.saturating_sub(1)..=number.saturating_add(1)
+}
+
+/// Sees that a mark, the next mapping of x, falls where the law says: up to the cut, the inverse of y, or behind it.
+fn falls(mark: &Asked, cut: &Asked) -> Result<(), String> {
+    let (x, mapped, y, located) = (mark.frame.a, mark.answer.value, cut.frame.a, cut.answer.value);
+    let (law, holds) = match cut.answer.number {
+        0 => (NEXT_AT_MOST, (mapped <= y) == (x <= located)),
+        _ => (NEXT_AT_MOST_FAR, mapped <= y),
+    };
+    if !holds {
+        let [next, inverse] = [mark, cut].map(|asked| spelled::answered(&asked.frame, &asked.answer.line()));
+        return Err(format!("it does not hold that {law}: {next}\n{inverse}"));
     }
     Ok(())
 }
@@ -74,8 +129,13 @@ fn carrying(random: &mut Random) -> Carrying {
 
 /// The answer to a call that is to be accepted.
 fn accepted(ask: Ask, frame: &Frame) -> Result<Answer, String> {
+    accepted_or(ask, frame, 0)
+}
+
+/// The answer to a call that is to be accepted, or else refused with this number.
+fn accepted_or(ask: Ask, frame: &Frame, refusal: u8) -> Result<Answer, String> {
     let answer = ask(frame)?;
-    if answer.number > 0 {
+    if answer.number > 0 && answer.number != refusal {
         return Err(format!("a call is refused that has to be accepted: {}", spelled::answered(frame, &answer.line())));
     }
     Ok(answer)
