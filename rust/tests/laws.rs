@@ -47,7 +47,7 @@ fn with_wrong_scatter(frame: &Frame, wrong: impl Fn(&mut u8)) -> Answer {
     given
 }
 
-/// The element that a mapping call is about.
+/// The element that a call is about.
 fn element_of(frame: &Frame) -> Element {
     Element::of(&read(&frame.sheet1).expect("it is accepted"), frame.i as usize)
 }
