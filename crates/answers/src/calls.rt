@@ -34,7 +34,7 @@ pub const LISTING: u8 = 11;
 pub const PACKED_LENGTH: u8 = 17;
 
 // What is replied to a call.
-#[derive(Drop)]
+#[derive(Clone, Copy)]
 pub enum Reply {
     Told(Answer),
     Unknown,

@@ -4,6 +4,7 @@
 // `frames` finds the parts of a frame, `numbers` reads and writes numbers of 64 bits, `calls` makes the call, with `asking` for those that write nothing,
 // `carrying` for those that carry bytes and `writing` for those that write a list or a text; `lines` writes the line. All are functions on slices and are
 // proved to do just what their definitions say. No contract can say what is read or written, so this file is proved safe, and proved to end.
+#![tactic(auto)]
 mod asking;
 mod calls;
 mod carrying;

@@ -2,6 +2,7 @@
 //
 // `checking` answers for one sheet, `mapping` maps offsets between the file and one element's subfile, `sharing` lists what two elements share,
 // `carrying` moves one element's bytes and `moving` bytes between trays, `listing` writes a sheet's listing. How each begins is in the crate `openings`.
+#![tactic(auto)]
 mod carrying;
 mod checking;
 mod listing;
@@ -24,7 +25,7 @@ pub use sheets::{
 };
 
 // What is known of an accepted sheet: the displacement, the pattern's size, and how many elements share it.
-#[derive(Drop)]
+#[derive(Clone, Copy)]
 pub struct Facts {
     pub displacement: u32,
     pub size: u32,
@@ -32,56 +33,56 @@ pub struct Facts {
 }
 
 // The answer to a sheet.
-#[derive(Drop)]
+#[derive(Clone, Copy)]
 pub enum Checked {
     Accepted(Facts),
     Refused(Refusal),
 }
 
 // The answer to exact and next mapping.
-#[derive(Drop)]
+#[derive(Clone, Copy)]
 pub enum Mapped {
     At(SubfileOffset),
     Refused(Refusal),
 }
 
 // The answer to inverse mapping.
-#[derive(Drop)]
+#[derive(Clone, Copy)]
 pub enum Located {
     At(FileOffset),
     Refused(Refusal),
 }
 
 // The answer to an interval's span: the first and the last subfile offset, both included.
-#[derive(Drop)]
+#[derive(Clone, Copy)]
 pub enum Spanned {
     Range(SubfileOffset, SubfileOffset),
     Refused(Refusal),
 }
 
 // The answer to shared runs: how many the list holds now.
-#[derive(Drop)]
+#[derive(Clone, Copy)]
 pub enum Listed {
     Runs(u64),
     Refused(Refusal),
 }
 
 // The answer to a packed length.
-#[derive(Drop)]
+#[derive(Clone, Copy)]
 pub enum Measured {
     Bytes(u64),
     Refused(Refusal),
 }
 
 // The answer to a sheet's listing: how many bytes of the buffer it is.
-#[derive(Drop)]
+#[derive(Clone, Copy)]
 pub enum Written {
     Bytes(u64),
     Refused(Refusal),
 }
 
 // The answer to a call that moves bytes.
-#[derive(Drop)]
+#[derive(Clone, Copy)]
 pub enum Carried {
     Done,
     Refused(Refusal),

@@ -2,6 +2,7 @@
 //
 // `segments` looks at one family, `siblings` at a list of them with their children (membership, size, end, rank, inverse), and
 // `painting` writes down which element owns each offset of a pattern.
+#![tactic(auto)]
 mod painting;
 mod row;
 mod segments;
@@ -12,7 +13,7 @@ pub use row::{lay_out, put_family, taken_up};
 pub use siblings::{end, inverse, rank, selects, size};
 
 // A family of 01 with its numbers; `span` counts it and all its descendants.
-#[derive(Drop)]
+#[derive(Clone, Copy)]
 pub struct Family {
     pub l: u32,
     pub r: u32,
@@ -23,7 +24,7 @@ pub struct Family {
 }
 
 // An element: where its families start, how many top families it has, and how many families of all levels.
-#[derive(Drop)]
+#[derive(Clone, Copy)]
 pub struct Element {
     pub first: usize,
     pub tops: u32,
@@ -31,7 +32,7 @@ pub struct Element {
 }
 
 // A decoded layout. `elements` and `families` say how much of each array is in use.
-#[derive(Drop)]
+#[derive(Clone, Copy)]
 pub struct Layout {
     pub displacement: u32,
     pub elements: usize,
@@ -44,11 +45,11 @@ pub struct Layout {
 pub const ROW: usize = 1536;
 
 // The three counts of 01, which the code keeps apart: an offset in the file, one in an element's subfile, a place in a tray.
-#[derive(Drop)]
+#[derive(Clone, Copy)]
 pub struct FileOffset(pub u64);
 
-#[derive(Drop)]
+#[derive(Clone, Copy)]
 pub struct SubfileOffset(pub u64);
 
-#[derive(Drop)]
+#[derive(Clone, Copy)]
 pub struct TrayPlace(pub u64);

@@ -1,6 +1,7 @@
 // Lines: the listing of a sheet, as 01 prints it.
 //
 // `line` puts one line into a text, `listing` all lines of a sheet.
+#![tactic(auto)]
 mod line;
 mod listing;
 

@@ -1,6 +1,7 @@
 // Listing: reads one layout sheet from standard input, and prints what a person wants to know of it: its layout's lines, or the line of its refusal.
 //
 // `astrephon::list_sheet` writes the text, and is proved to. No contract can say what is read or printed, so this file is proved safe, and proved to end.
+#![tactic(auto)]
 use astrephon::Written;
 
 const INPUT: i32 = 0;

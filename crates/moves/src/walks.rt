@@ -8,7 +8,7 @@ use families::FileOffset;
 use maps::{Selection, Window};
 
 // A selected byte: its place in the file buffer, in its period, and in the packed buffer.
-#[derive(Drop)]
+#[derive(Clone, Copy)]
 pub struct Walk {
     pub at: usize,
     pub place: usize,

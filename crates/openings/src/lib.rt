@@ -3,6 +3,7 @@
 //
 // `refusals` makes a refusal; `opened` opens an element, `paired` one of each of two sheets, or both sheets; `ranges` gives the number that refuses an index,
 // an offset, a window or a length, or 0.
+#![tactic(auto)]
 use maps::Selection;
 use sheets::Reading;
 
@@ -37,7 +38,7 @@ pub const LIMIT: u64 = 1 << 40;
 pub const LAST: u64 = LIMIT - 1;
 
 // A refusal: its number in 01's table, the sheet at fault (1 or 2, and 0 where it is none), the place, and the flag of number 11.
-#[derive(Drop)]
+#[derive(Clone, Copy)]
 pub struct Refusal {
     pub number: u8,
     pub sheet: u8,
@@ -46,14 +47,14 @@ pub struct Refusal {
 }
 
 // What the element selects of the file. A refusal with number 0 is none, and with any other there is no selection.
-#[derive(Drop)]
+#[derive(Clone, Copy)]
 pub struct Opening {
     pub refusal: Refusal,
     pub selection: Selection,
 }
 
 // What an element of each of two sheets selects; the refusal as above.
-#[derive(Drop)]
+#[derive(Clone, Copy)]
 pub struct Pair {
     pub refusal: Refusal,
     pub one: Selection,
@@ -61,7 +62,7 @@ pub struct Pair {
 }
 
 // Two sheets, with the refusal of the first that is refused. Number 0 is none.
-#[derive(Drop)]
+#[derive(Clone, Copy)]
 pub struct Sheets {
     pub refusal: Refusal,
     pub one: Reading,

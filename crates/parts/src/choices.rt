@@ -4,7 +4,7 @@ ghost use Rattle.parts.specs.Pieces.{every_pair, one_pair};
 
 // What is moved: to the elements from `first` up to but not including `last` of the second layout, what the owner `only` of the first has; all, where
 // that is 0.
-#[derive(Drop)]
+#[derive(Clone, Copy)]
 pub struct Chosen {
     pub only: usize,
     pub first: usize,

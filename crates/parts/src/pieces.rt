@@ -7,7 +7,7 @@ use families::{SubfileOffset, TrayPlace};
 use maps::Window;
 
 // A layout's displacement, pattern size and number of elements, which its table of owners goes with.
-#[derive(Drop)]
+#[derive(Clone, Copy)]
 pub struct Cycle {
     pub from: u32,
     pub period: u32,
@@ -15,7 +15,7 @@ pub struct Cycle {
 }
 
 // Whose the piece is, how long, its place in the period and how many whole periods lie before it.
-#[derive(Drop)]
+#[derive(Clone, Copy)]
 pub struct Piece {
     pub owner: usize,
     pub len: usize,

@@ -5,7 +5,7 @@ ghost use Rattle.parts.specs.Pieces.{share_at};
 use families::{SubfileOffset, TrayPlace};
 
 // Where an element's part of a tray starts and how long it is, how many of its bytes lie before the window, and how many a period has.
-#[derive(Drop)]
+#[derive(Clone, Copy)]
 pub struct Share {
     pub start: TrayPlace,
     pub count: u64,

@@ -6,14 +6,14 @@ use families::{FileOffset, SubfileOffset};
 use maps::Selection;
 
 // Where the walk's offset stands in one selection: its place in a period, and its rank.
-#[derive(Drop)]
+#[derive(Clone, Copy)]
 pub struct Side {
     pub place: usize,
     pub rank: SubfileOffset,
 }
 
 // A file offset, and where it stands in each selection.
-#[derive(Drop)]
+#[derive(Clone, Copy)]
 pub struct Walk {
     pub x: FileOffset,
     pub one: Side,

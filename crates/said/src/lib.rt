@@ -1,4 +1,5 @@
 // Said: what an answer says, as seven numbers in a struct, whatever type the answer has. This is how programs print answers, and hand them on to other languages.
+#![tactic(auto)]
 ghost use Rattle.std.specs.Prelude.{◌≡◌, [], ◌∷◌};
 ghost use Rattle.openings.specs.Said.{refusal_says};
 ghost use Rattle.openings.specs.Said.{done};
@@ -8,7 +9,7 @@ ghost use Rattle.said.specs.Answers.{answer_of};
 use astrephon::{Carried, Checked, Listed, Located, Mapped, Measured, Refusal, Spanned, Written};
 
 // Number 0 is a call that did its work; values that it does not give are 0.
-#[derive(Drop)]
+#[derive(Clone, Copy)]
 pub struct Answer {
     pub number: u64,
     pub sheet: u64,

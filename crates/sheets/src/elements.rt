@@ -11,7 +11,7 @@ use families::Element;
 
 // How far a sheet was read: where the next record starts, the first offset past all families, how many elements and families there are, and the
 // elements. Where the number is not 0, a refusal and its place.
-#[derive(Drop)]
+#[derive(Clone, Copy)]
 pub struct Progress {
     pub number: u8,
     pub place: usize,

@@ -2,6 +2,7 @@
 //
 // `digits` reads numbers, `records` finds a record's first fault, `trees` reads families and `elements` all records, in sheet order; `pattern` looks for
 // holes and overlaps; `answer` has the reader itself.
+#![tactic(auto)]
 use families::Layout;
 
 mod answer;
@@ -45,7 +46,7 @@ pub const HOLE: u8 = 1;
 pub const OVERLAP: u8 = 2;
 
 // The answer to a sheet. Number 0 is an accepted one, with its pattern's size and its layout; of a refused one these are 0 and blank.
-#[derive(Drop)]
+#[derive(Clone, Copy)]
 pub struct Reading {
     pub number: u8,
     pub place: u64,

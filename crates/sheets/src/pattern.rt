@@ -7,7 +7,7 @@ ghost use Rattle.sheets.specs.Uneven.{scanned, uneven_of};
 use families::Layout;
 
 // An offset of a pattern, with HOLE or OVERLAP; the pattern's size, with NO_FLAG, where every offset is in exactly one element.
-#[derive(Drop)]
+#[derive(Clone, Copy)]
 pub struct Uneven {
     pub place: u32,
     pub flag: u8,

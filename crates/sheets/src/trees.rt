@@ -8,7 +8,7 @@ use crate::records::Limits;
 use families::{Family, put_family};
 
 // What reading siblings gives: where the next record starts, and the first offset past them. Where the number is not 0, a refusal and its place.
-#[derive(Drop)]
+#[derive(Clone, Copy)]
 pub struct Step {
     pub number: u8,
     pub place: usize,
