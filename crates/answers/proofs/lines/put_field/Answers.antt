@@ -1,0 +1,8 @@
+-- `put_field` meets its contract. Assumes nothing.
+use native.Mathlib.Omega.{arith}
+use borrow.Author.Rules.{rules}
+use Rattle.answers.proofs.Fields.{put_field}
+use Rattle.answers.proofs.lines.put_field.Goals as goal
+
+pub returns : goal.returns
+returns c = put_field _ c.put_number-end.ensures (omega arith)

@@ -1,0 +1,12 @@
+use mathlib.Core.Path.{◌≡◌}
+use Prim.Native.Nat.{◌-◌}
+use native.Mathlib.Omega.{arith}
+use lib.ListN.{length}
+use Rattle.answers.proofs.Slots.{Returned, returned_none, returned_length, returned_more, returned_all}
+use Rattle.answers.proofs.numbers.put_slots.Given as goal
+
+abbrev pub invariant-loop-i : goal.invariant-loop-i
+invariant-loop-i l = Returned l.list l.initial.buffer l.i l.buffer
+
+abbrev pub decreases-loop-i : goal.decreases-loop-i
+decreases-loop-i l = length l.list - l.i

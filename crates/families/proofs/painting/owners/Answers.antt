@@ -1,0 +1,18 @@
+-- `owners` meets its contract. The loop's invariant: the table has the owners among the first e elements. Assumes nothing.
+use Prim.Native.Nat.{◌-◌}
+use native.Mathlib.Omega.{arith}
+use lib.ListN.{length}
+use Rattle.families.proofs.Owning.{Going, going_start, going_asks, going_next, going_end}
+use Rattle.families.proofs.painting.owners.Goals as goal
+
+pub loop-e-init : goal.loop-e-init
+loop-e-init c = let asked = c.requires in going_start _ _ _ _ asked.1.0 asked.1.1.0 asked.1.1.1
+
+pub paint-requires : goal.paint-requires
+paint-requires c =going_asks c.loop-e.invariant c.loop-e-test.true c.requires.fact_1
+
+pub loop-e-preserved : goal.loop-e-preserved
+loop-e-preserved c =going_next c.loop-e.invariant c.loop-e-test.true c.requires.fact_1 _ c.paint.ensures
+
+pub returns : goal.returns
+returns c = going_end c.loop-e.invariant c.loop-e-test.false

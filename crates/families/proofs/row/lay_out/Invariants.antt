@@ -1,0 +1,12 @@
+use mathlib.Core.Path.{◌≡◌, ap, ◌∙◌}
+use Prim.Native.Nat.{◌+◌, ◌-◌, ◌*◌, ◌≤◌}
+use native.Mathlib.Omega.{arith}
+use lib.ListN.{length}
+use Rattle.families.proofs.Rows.{Laid, laid_none, laid_long, laid_part, laid_next, laid_all, mapped_long}
+use Rattle.families.proofs.row.lay_out.Given as goal
+
+abbrev pub invariant-loop-i : goal.invariant-loop-i
+invariant-loop-i l = (l.i ≤ l.families) × Laid l.layout.family l.initial.numbers l.numbers l.i
+
+abbrev pub decreases-loop-i : goal.decreases-loop-i
+decreases-loop-i l = l.families - l.i

@@ -1,0 +1,28 @@
+use mathlib.Core.Path.{◌≡◌, refl, sym, ◌∙◌}
+use Prim.Native.Nat.{◌+◌, ◌-◌, ◌*◌, ◌/◌, ◌^◌, ◌≤◌}
+use native.Mathlib.Omega.{arith}
+use lib.ListN.{length}
+use Rattle.counting.specs.Count.{nth}
+use Rattle.families.specs.Forest.{Forest, has, end_of, size_of, Sound}
+use Rattle.families.specs.Decoded.{family_at, forest_at}
+use Rattle.families.proofs.Forests.{each_kids, size_le, positive}
+use Rattle.families.proofs.NestedFamily.{kids_sound, segment_le, leaf_nth, kids_nth}
+use Rattle.families.proofs.Steps.{leaf, branch, rest_of}
+use Rattle.families.proofs.Loops.{Here, here, held_here, nested, size_step, size_none, nth_in, nth_rest, nth_le, number_fits, place_lt}
+use Prim.Native.Nat.{ℕ, ◌<◌}
+use Rattle.families.proofs.siblings.+inverse_segment_inverse.Given as goal
+
+abbrev pub decreases-inverse : goal.decreases-inverse
+decreases-inverse l = 2 * l.levels
+
+abbrev pub decreases-segment_inverse : goal.decreases-segment_inverse
+decreases-segment_inverse l = 2 * l.levels + 1
+
+abbrev pub invariant-inverse-loop-left : goal.invariant-inverse-loop-left
+invariant-inverse-loop-left l =
+    let F = forest_at l.levels (family_at l.numbers) l.at l.left in
+    let G = forest_at l.levels (family_at l.numbers) l.first l.count in
+    Sound F × (l.skip < size_of F) × (nth (has G) (end_of G) l.y ≡ nth (has F) (end_of F) l.skip)
+
+abbrev pub decreases-inverse-loop-left : goal.decreases-inverse-loop-left
+decreases-inverse-loop-left l = l.left

@@ -1,0 +1,26 @@
+use mathlib.Core.Path.{◌≡◌, sym, ◌∙◌}
+use Prim.Native.Nat.{◌+◌, ◌-◌, ◌*◌, ◌^◌, ◌≤◌}
+use native.Mathlib.Omega.{arith}
+use borrow.Author.Rules.{rules}
+use lib.ListN.{length}
+use Rattle.families.specs.Forest.{size_of, Sound}
+use Rattle.families.specs.Decoded.{family_at, forest_at}
+use Rattle.families.proofs.Forests.{each_leaf, each_kids, size_le}
+use Rattle.families.proofs.NestedFamily.{kids_sound}
+use Rattle.families.proofs.Steps.{leaf, branch, rest_of}
+use Rattle.families.proofs.Loops.{Here, here, held_here, nested, size_step, size_none}
+use Prim.Native.Nat.{ℕ, ◌<◌}
+use Rattle.families.proofs.siblings.+segment_size_size.Given as goal
+
+abbrev pub decreases-segment_size : goal.decreases-segment_size
+decreases-segment_size l = 2 * l.levels + 1
+
+abbrev pub decreases-size : goal.decreases-size
+decreases-size l = 2 * l.levels
+
+abbrev pub invariant-size-loop-left : goal.invariant-size-loop-left
+invariant-size-loop-left l =
+    Sound (forest_at l.levels (family_at l.numbers) l.at l.left) × (l.sum + size_of (forest_at l.levels (family_at l.numbers) l.at l.left) ≡ size_of (forest_at l.levels (family_at l.numbers) l.first l.count))
+
+abbrev pub decreases-size-loop-left : goal.decreases-size-loop-left
+decreases-size-loop-left l = l.left

@@ -1,0 +1,9 @@
+-- `put_element` meets its contract. Assumes nothing.
+use borrow.Author.Rules.{rules}
+use Rattle.lines.proofs.Lines.{put_element}
+use Rattle.words.specs.Texts.{word}
+use Rattle.lines.proofs.line.put_element.Goals as goal
+
+pub returns : goal.returns
+unfolding word
+returns c = put_element _ _ _ _ c.put_number-named.ensures c.put_both-sized.ensures c.put_both-counted.ensures c.put_both-placed.ensures c.put.ensures

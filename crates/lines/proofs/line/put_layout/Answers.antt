@@ -1,0 +1,9 @@
+-- `put_layout` meets its contract. Assumes nothing.
+use borrow.Author.Rules.{rules}
+use Rattle.lines.proofs.Lines.{put_layout}
+use Rattle.words.specs.Texts.{word}
+use Rattle.lines.proofs.line.put_layout.Goals as goal
+
+pub returns : goal.returns
+unfolding word
+returns c = put_layout _ _ _ c.put_both-displaced.ensures c.put_both-sized.ensures c.put_both-counted.ensures c.put.ensures

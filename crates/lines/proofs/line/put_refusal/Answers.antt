@@ -1,0 +1,9 @@
+-- `put_refusal` meets its contract. Assumes nothing.
+use borrow.Author.Rules.{rules}
+use Rattle.lines.proofs.Lines.{put_refusal}
+use Rattle.words.specs.Texts.{word}
+use Rattle.lines.proofs.line.put_refusal.Goals as goal
+
+pub returns : goal.returns
+unfolding word
+returns c = put_refusal _ _ _ c.put_both-named.ensures c.put_both-placed.ensures c.put_flag-flagged.ensures c.put.ensures

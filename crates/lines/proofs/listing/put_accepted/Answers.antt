@@ -1,0 +1,7 @@
+-- `put_accepted` meets its contract. Assumes nothing.
+use borrow.Author.Rules.{rules}
+use Rattle.lines.proofs.Lines.{put_accepted}
+use Rattle.lines.proofs.listing.put_accepted.Goals as goal
+
+pub returns : goal.returns
+returns c = put_accepted _ _ c.put_layout-end.ensures c.put_trees.ensures

@@ -1,0 +1,10 @@
+use Prim.Native.Nat.{◌-◌}
+use native.Mathlib.Omega.{arith}
+use Rattle.lines.proofs.Lines.{Lined, lined_none, lined_room, lined_more, lined_all}
+use Rattle.lines.proofs.listing.put_trees.Given as goal
+
+abbrev pub invariant-loop-e : goal.invariant-loop-e
+invariant-loop-e l = Lined l.layout l.at l.initial.text l.text l.end l.e
+
+abbrev pub decreases-loop-e : goal.decreases-loop-e
+decreases-loop-e l = l.elements - l.e

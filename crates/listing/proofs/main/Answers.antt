@@ -1,0 +1,13 @@
+-- `main` is safe and ends: what the call says it wrote fits the buffer. Assumes nothing.
+use mathlib.Core.Path.{sym, ap, ◌∙◌}
+use lib.Seq.{length-take-le}
+use borrow.Author.Rules.{rules}
+use Rattle.astrephon.specs.Says.{written_says}
+use Rattle.astrephon.proofs.Texts.{written_fits}
+use Rattle.listing.proofs.main.Goals as goal
+
+pub slice_bounds-text-end : goal.slice_bounds-text-end
+slice_bounds-text-end c = let said = c.list_sheet-written.ensures in written_fits _ _ (ap written_says (sym c.written-1.given.1) ∙ said.0) said.1
+
+pub slice_bounds-write_all-end : goal.slice_bounds-write_all-end
+slice_bounds-write_all-end c = let said = c.list_sheet-written.ensures in sym (length-take-le _ _ (written_fits _ _ (ap written_says (sym c.written-1.given.1) ∙ said.0) said.1))

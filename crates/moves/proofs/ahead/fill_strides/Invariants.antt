@@ -1,0 +1,14 @@
+use mathlib.Core.Logic.{⊎_elim}
+use Prim.Native.Nat.{◌+◌, ◌-◌}
+use native.Mathlib.Omega.{arith}
+use lib.ListN.{get_or, set}
+use borrow.Author.Rules.{rules}
+use Rattle.moves.proofs.Filling.{Turned, Filling, Fitting, filling_start, filling_turn, filling_same, filling_fits, filling_next, filling_all}
+use Rattle.moves.proofs.ahead.fill_strides.Given as goal
+
+abbrev pub invariant-loop-place : goal.invariant-loop-place
+invariant-loop-place l =
+    Filling l.owners l.period l.initial.nexts l.initial.runs l.initial.hops l.place l.last l.run l.gap l.nexts l.runs l.hops
+
+abbrev pub decreases-loop-place : goal.decreases-loop-place
+decreases-loop-place l = l.place

@@ -1,0 +1,20 @@
+-- `scatter` meets its contract: either size of tables has room for a period of the selection. Assumes nothing.
+use native.Mathlib.Omega.{arith}
+use borrow.Author.Rules.{rules}
+use Rattle.runs.proofs.Room.{side_smaller}
+use Rattle.moves.proofs.Bounds.{tables_ask, scatter_empty}
+use Rattle.moves.proofs.scattering.scatter.Goals as goal
+
+pub returns-then-window : goal.returns-then-window
+returns-then-window c = scatter_empty _ _ c.requires.fact_3 c.if-window.true
+
+pub scatter_by_tables-requires : goal.scatter_by_tables-requires
+scatter_by_tables-requires c =
+    let asked = c.requires in
+    let small = side_smaller asked.0 2048 _ c.fits2.ensures c.if-fits.true in
+    tables_ask small asked.1.0 asked.1.1 c.if-window.false (omega arith)
+
+pub scatter_by_tables-requires-2 : goal.scatter_by_tables-requires-2
+scatter_by_tables-requires-2 c =
+    let asked = c.requires in
+    tables_ask asked.0 asked.1.0 asked.1.1 c.if-window.false (omega arith)

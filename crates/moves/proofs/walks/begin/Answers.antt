@@ -1,0 +1,25 @@
+-- `begin` meets its contract: the first byte from a on has its rank. Assumes nothing.
+use borrow.Author.Rules.{rules}
+use native.Mathlib.Omega.{arith}
+use Rattle.maps.proofs.Mapped.{period_some}
+use Rattle.moves.proofs.Beginnings.{rank_near, byte_after, begun}
+use Rattle.moves.proofs.walks.begin.Goals as goal
+
+pub file_inverse-byte-requires : goal.file_inverse-byte-requires
+file_inverse-byte-requires c = 
+    let asked = c.requires in
+    record { fact_1 = asked.0; fact_2 = rank_near _ _ _ c.file_rank-rank.ensures asked.1.1 }
+
+pub overflow_sub-past : goal.overflow_sub-past
+overflow_sub-past c =
+    omega (arith, byte_after _ _ _ _ c.file_rank-rank.ensures c.file_inverse-byte.ensures, c.requires.fact_2)
+
+pub overflow_sub-result : goal.overflow_sub-result
+overflow_sub-result c = byte_after _ _ _ _ c.file_rank-rank.ensures c.file_inverse-byte.ensures
+
+pub nonzero_rem-result : goal.nonzero_rem-result
+nonzero_rem-result c = period_some c.requires.fact_1
+
+pub returns : goal.returns
+returns c =
+    begun _ _ _ _ c.file_rank-rank.ensures c.file_inverse-byte.ensures _ c.requires.fact_2

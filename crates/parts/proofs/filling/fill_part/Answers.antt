@@ -1,0 +1,105 @@
+-- `fill_part` meets its contract. The loop's invariant: what is filled and what is left make the whole. Assumes nothing.
+use mathlib.Core.Path.{◌≡◌, ◌∙◌}
+use mathlib.Core.Logic.{◌⊎◌, ⊎_elim, inl, inr}
+use Prim.Native.Nat.{◌-◌}
+use native.Mathlib.Omega.{arith}
+use borrow.Author.Tests.{eqb-true, eqb-false}
+use Rattle.counting.specs.Trays.{in_tray}
+use Rattle.maps.specs.Selected.{belongs}
+use Rattle.parts.specs.Pieces.{bytes_of, elements_by, takes}
+use Rattle.moves.proofs.Striding.{begin_asks, run_asks, further_asks}
+use Rattle.parts.proofs.Piecing.{piece_asks, step_just}
+use Rattle.parts.proofs.Renewing.{Renewing, renewing_start, renewing_end, AtPiece, source_asked, copy_asked, beyond_asked, far_least, far_over}
+use Rattle.parts.proofs.Renewing.{piece_forward, piece_copied, piece_passed}
+use Rattle.parts.proofs.filling.fill_part.Goals as goal
+
+-- what is known at a piece
+here : (c : goal.After-piece_at-piece) →
+    let args = c.args in
+    AtPiece args.s (belongs args.s args.numbers.now) args.runs.now args.hops.now args.window.start.0 (bytes_of args.window)
+    args.cycle args.owners.now args.keeps.now args.skips.now args.ranks.now args.shares.now args.only
+    args.tray.now args.part.now c.loop-walk.part c.loop-walk.walk c.run_here-run.result c.piece_at-piece.result
+here c =
+    let asked = c.requires in
+    record {
+      strides = asked.1.0;
+      sources = asked.1.1;
+      long = asked.0.buffers.file;
+      renewing = c.loop-walk.invariant;
+      inside = omega (arith, c.loop-walk-test.true, asked.0.buffers.file);
+      clipped = c.run_here-run.ensures;
+      is = c.piece_at-piece.ensures;
+    }
+
+-- .. that is taken
+chosen : (c : goal.Joined-then-only-eq0) →
+    let only = c.args.only in
+    (only ≡ 0) ⊎ (only ≡ c.piece_at-piece.result.owner)
+chosen c = ⊎_elim (λ v. inl v.taken) (λ v. inr (eqb-true _ _ v.2.taken)) c.if-only-eq0.branch
+
+pub begin-walk-requires : goal.begin-walk-requires
+begin-walk-requires c = 
+    let p = (begin_asks c.requires.fact_1) in
+    record { fact_1 = p.0; fact_2 = p.1.0; fact_3 = p.1.1 }
+
+pub loop-walk-init : goal.loop-walk-init
+loop-walk-init c =
+    renewing_start c.begin-walk.ensures _ _ _ _ c.requires.fact_1.buffers.packed
+
+pub run_here-run-requires : goal.run_here-run-requires
+run_here-run-requires c = 
+    let p = (let asked = c.requires in
+    run_asks asked.0 asked.1.0 c.loop-walk.invariant.packing.stands c.loop-walk-test.true) in
+    record { fact_1 = p.0; fact_2 = p.1.0; fact_3 = p.1.1 }
+
+pub piece_at-piece-requires : goal.piece_at-piece-requires
+piece_at-piece-requires c =
+    let asked = c.requires in
+    piece_asks asked.1.1 (omega (arith, c.loop-walk-test.true, asked.0.buffers.file))
+
+pub source_of-source-requires : goal.source_of-source-requires
+source_of-source-requires c = source_asked (here (goal.at.source_of-source-requires c).After-piece_at-piece)
+
+pub copy_run-requires : goal.copy_run-requires
+copy_run-requires c =
+    let fits = copy_asked (here (goal.at.copy_run-requires c).After-piece_at-piece) _ c.source_of-source.ensures in
+    (omega (arith, fits.0), omega (arith, fits.1))
+
+pub beyond-step-requires : goal.beyond-step-requires
+beyond-step-requires c = beyond_asked (here (goal.at.beyond-step-requires c).After-piece_at-piece)
+
+pub further-walk-requires : goal.further-walk-requires
+further-walk-requires c = 
+    let p = (let asked = c.requires in
+    further_asks asked.0 asked.1.0 c.loop-walk.invariant.packing.stands c.loop-walk-test.true _ c.run_here-run.ensures) in
+    record { fact_1 = p.0; fact_2 = p.1 }
+
+pub loop-walk-smaller : goal.loop-walk-smaller
+loop-walk-smaller c =
+    let A = here (goal.at.loop-walk-smaller c).After-piece_at-piece in
+    omega (
+      arith,
+      piece_forward A _ c.further-walk.ensures
+          (⊎_elim (λ w. rw w.9 (far_least A _ w.7.ensures)) (⊎_elim (λ w. omega arith) (λ w. omega arith)) c.if-only-eq0.branch),
+      A.inside,
+      A.long,
+    )
+
+pub loop-walk-preserved : goal.loop-walk-preserved
+loop-walk-preserved c =
+    let A = here (goal.at.loop-walk-preserved c).After-piece_at-piece in
+    let on = c.further-walk.ensures in
+    ⊎_elim
+    (λ w.
+    let own = chosen (record { before = c.before.before; if2 = w.0 }) in
+    piece_copied A _ on (rw w.9 (far_over A _ w.7.ensures w.6.taken own)) own _ w.1.ensures _ (w.8 ∙ w.3.ensures))
+    (⊎_elim
+    (λ w.
+    let own = chosen (record { before = c.before.before; if2 = w.0 }) in
+    piece_copied A _ on (step_just _ _ _ w.8) own _ w.1.ensures _ (w.7 ∙ w.3.ensures))
+    (λ w. piece_passed A _ on (step_just _ _ _ w.4) w.0.left (eqb-false _ _ w.2.left) _ w.3))
+    c.if-only-eq0.branch
+
+pub returns : goal.returns
+returns c =
+    renewing_end c.loop-walk.invariant (omega (arith, c.loop-walk-test.false, c.requires.fact_1.buffers.file))

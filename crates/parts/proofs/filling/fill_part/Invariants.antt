@@ -1,0 +1,22 @@
+use mathlib.Core.Path.{◌≡◌, ◌∙◌}
+use mathlib.Core.Logic.{◌⊎◌, ⊎_elim, inl, inr}
+use Prim.Native.Nat.{◌-◌}
+use native.Mathlib.Omega.{arith}
+use borrow.Author.Tests.{eqb-true, eqb-false}
+use Rattle.counting.specs.Trays.{in_tray}
+use Rattle.maps.specs.Selected.{belongs}
+use Rattle.parts.specs.Pieces.{bytes_of, elements_by, takes}
+use Rattle.moves.proofs.Striding.{begin_asks, run_asks, further_asks}
+use Rattle.parts.proofs.Piecing.{piece_asks, step_just}
+use Rattle.parts.proofs.Renewing.{Renewing, renewing_start, renewing_end, AtPiece, source_asked, copy_asked, beyond_asked, far_least, far_over}
+use Rattle.parts.proofs.Renewing.{piece_forward, piece_copied, piece_passed}
+use Rattle.parts.proofs.filling.fill_part.Given as goal
+
+abbrev pub invariant-loop-walk : goal.invariant-loop-walk
+invariant-loop-walk l =
+    let L = elements_by l.cycle l.owners in
+    let a = l.window.start.0 in
+    Renewing l.s (belongs l.s l.numbers) a (bytes_of l.window) (takes L l.only) (in_tray L a (bytes_of l.window) l.tray) l.initial.part l.part l.walk
+
+abbrev pub decreases-loop-walk : goal.decreases-loop-walk
+decreases-loop-walk l = l.n - l.walk.at

@@ -1,0 +1,28 @@
+-- `add` meets its contract. Assumes nothing.
+use mathlib.Core.Path.{◌≡◌, ap, ◌∙◌}
+use mathlib.Core.List.{List, [], ◌∷◌}
+use mathlib.Core.Logic.{⊎_elim}
+use Prim.Native.Nat.{ℕ, ◌+◌}
+use native.Mathlib.Omega.{arith}
+use lib.ListN.{length, length-set}
+use borrow.Author.Rules.{rules}
+use Rattle.runs.specs.Listing.{filled, with_run}
+use Rattle.runs.proofs.Fillings.{none_written, four_written, length_with_run}
+use Rattle.runs.proofs.listing.add.Goals as goal
+
+-- what stands in the list where the two ways meet
+written : (c : goal.Joined-next-list)
+    → let a = c.args in c.if-next-list.list ≡ with_run a.list.now a.runs (a.walk.x.0 ∷ a.len ∷ a.walk.one.rank.0 ∷ a.walk.two.rank.0 ∷ [])
+written c = ⊎_elim (λ w. w.1 ∙ four_written _ _ _ _ _ _ w.0.taken) (λ w. w.1 ∙ none_written _ _ _ w.0.left) c.if-next-list.branch
+
+pub bounds-list-at-then-next-list : goal.bounds-list-at-then-next-list
+bounds-list-at-then-next-list c = simp length-set (omega arith)
+
+pub bounds-list-at-then-next-list-2 : goal.bounds-list-at-then-next-list-2
+bounds-list-at-then-next-list-2 c = simp length-set (omega arith)
+
+pub bounds-list-at-then-next-list-3 : goal.bounds-list-at-then-next-list-3
+bounds-list-at-then-next-list-3 c = simp length-set (omega arith)
+
+pub returns : goal.returns
+returns c = ap (λ (slots : List ℕ). filled slots (c.args.runs + 1)) (written c)

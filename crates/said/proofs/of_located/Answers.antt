@@ -1,0 +1,11 @@
+-- `of_located` meets its contract. Assumes nothing.
+use Rattle.astrephon.specs.Says.{located_says}
+use Rattle.said.proofs.Telling.{telling}
+use borrow.Author.Rules.{rules}
+use Rattle.said.proofs.of_located.Goals as goal
+
+pub returns-in-At : goal.returns-in-At
+returns-in-At c = telling located_says c.located-1.given.1 _ c.done.ensures
+
+pub returns-in-Refused : goal.returns-in-Refused
+returns-in-Refused c = telling located_says c.located-in-Refused-1.given.1 _ c.refused.ensures

@@ -1,0 +1,11 @@
+-- `of_spanned` meets its contract. Assumes nothing.
+use Rattle.astrephon.specs.Says.{spanned_says}
+use Rattle.said.proofs.Telling.{telling}
+use borrow.Author.Rules.{rules}
+use Rattle.said.proofs.of_spanned.Goals as goal
+
+pub returns-in-Range : goal.returns-in-Range
+returns-in-Range c = telling spanned_says c.spanned-1.given.1 _ c.done.ensures
+
+pub returns-in-Refused : goal.returns-in-Refused
+returns-in-Refused c = telling spanned_says c.spanned-in-Refused-1.given.1 _ c.refused.ensures

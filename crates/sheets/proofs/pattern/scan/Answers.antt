@@ -1,0 +1,22 @@
+-- `scan` meets its contract. The loop's invariant: every entry that was passed stands for one element. Assumes nothing.
+use mathlib.Core.Path.{refl}
+use mathlib.Core.Logic.{⊎_elim}
+use Prim.Native.Nat.{◌-◌}
+use native.Mathlib.Omega.{arith}
+use Rattle.sheets.proofs.Scanning.{Scan, scan_start, scan_next, scan_found, scan_all}
+use Rattle.sheets.proofs.pattern.scan.Goals as goal
+
+pub loop-i-init : goal.loop-i-init
+loop-i-init c = ⊎_elim (λ w. scan_start _ _ _ (omega arith) (omega arith) (omega arith)) (λ w. scan_start _ _ _ (omega arith) (omega arith) (omega arith)) c.if-table-end.branch
+
+pub returns-then-v-eq0 : goal.returns-then-v-eq0
+returns-then-v-eq0 c = scan_found c.loop-i.invariant (omega arith) (rw c.if-v-eq0.true refl)
+
+pub returns-then-v : goal.returns-then-v
+returns-then-v c = scan_found c.loop-i.invariant (omega arith) (rw c.if-v.true refl)
+
+pub loop-i-preserved : goal.loop-i-preserved
+loop-i-preserved c = scan_next c.loop-i.invariant (omega arith) c.if-v-eq0.false c.if-v.false
+
+pub returns : goal.returns
+returns c = scan_all c.loop-i.invariant (omega arith)

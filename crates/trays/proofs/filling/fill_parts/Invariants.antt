@@ -1,0 +1,14 @@
+use Prim.Native.Nat.{◌-◌}
+use native.Mathlib.Omega.{arith}
+use Rattle.maps.specs.Selected.{elements_of}
+use Rattle.parts.specs.Pieces.{bytes_of, elements_by}
+use Rattle.trays.proofs.Parting.{Parted, parted_none, parted_long, parted_all, targets_once}
+use Rattle.trays.proofs.Parting.{parting_element, parting_held, parting_fits, parting_asks, parting_next}
+use Rattle.trays.proofs.filling.fill_parts.Given as goal
+
+abbrev pub invariant-loop-j : goal.invariant-loop-j
+invariant-loop-j l =
+    Parted (elements_by l.cycle l.owners) (elements_of l.layout l.size) l.window.start.0 (bytes_of l.window) l.tray1 l.initial.tray2 l.only l.initial.j l.last l.tray2 l.j
+
+abbrev pub decreases-loop-j : goal.decreases-loop-j
+decreases-loop-j l = l.last - l.j

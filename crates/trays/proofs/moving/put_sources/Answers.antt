@@ -1,0 +1,15 @@
+-- `put_sources` meets its contract. Assumes nothing.
+use borrow.Author.Rules.{rules}
+use Rattle.trays.proofs.Noting.{sources_noted, counted_ask}
+use Rattle.trays.proofs.moving.put_sources.Goals as goal
+
+pub fill_ranks-requires : goal.fill_ranks-requires
+fill_ranks-requires c =
+    let asked = c.requires in
+    counted_ask asked.0.starts c.fill_tables.ensures asked.1.1.0
+
+pub returns : goal.returns
+returns c = 
+    let asked = c.requires in
+    let T = c.fill_tables.ensures in
+    record { fact_1 = sources_noted asked.0.starts T c.fill_ranks.ensures c.share_out.ensures; fact_2 = T.is }

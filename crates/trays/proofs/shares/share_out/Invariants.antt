@@ -1,0 +1,15 @@
+use Prim.Native.Nat.{◌+◌, ◌-◌, ◌*◌}
+use native.Mathlib.Omega.{arith}
+use Rattle.maps.specs.Selected.{elements_of}
+use Rattle.parts.specs.Pieces.{bytes_of}
+use Rattle.trays.proofs.Layouts.{elements_length}
+use Rattle.trays.proofs.Choosing.{chosen_ok}
+use Rattle.trays.proofs.Allotting.{Allotted, allotted_none, allotted_all, allotting_held, allotting_part, allotting_fits, allotting_next}
+use Rattle.trays.proofs.shares.share_out.Given as goal
+
+abbrev pub invariant-loop-e : goal.invariant-loop-e
+invariant-loop-e l =
+    Allotted (elements_of l.layout l.size) l.layout.displacement l.size l.window.start.0 (bytes_of l.window) l.initial.shares l.shares l.e l.at
+
+abbrev pub decreases-loop-e : goal.decreases-loop-e
+decreases-loop-e l = l.elements - l.e

@@ -1,0 +1,7 @@
+-- `put_both` meets its contract. Assumes nothing.
+use borrow.Author.Rules.{rules}
+use Rattle.words.proofs.Puts.{◌then◌}
+use Rattle.words.proofs.put_both.Goals as goal
+
+pub returns : goal.returns
+returns c = c.put-end.ensures then c.put_number.ensures
