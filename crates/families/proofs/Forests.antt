@@ -17,10 +17,10 @@ use Rattle.families.proofs.Division.{segments_before, segments_after, segments_a
 pub wf_wider : {a b c d : ℕ} (F : Forest) → c ≤ a → b ≤ d → WF a b F → WF c d F
 unfolding WF
 wf_wider nil l m w = tt
-wf_wider (node l r s n kids rest) p q w = (
+wf_wider {a = a} {b = b} {c = c} {d = d} (node l r s n kids rest) p q w = (
   record { some = w.0.some; forward = w.0.forward; stride = w.0.stride; after = omega (arith, w.0.after); inside = omega (arith, w.0.inside) },
   w.1,
-  wf_wider rest (omega arith) q w.2,
+  wf_wider {a = last_byte l r s n + 1} rest (omega arith) q w.2,
 )
 
 -- .. and with a narrower one, where the families end by it

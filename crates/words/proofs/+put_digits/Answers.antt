@@ -12,9 +12,7 @@ pub returns-then-n-lt10 : goal.returns-then-n-lt10
 returns-then-n-lt10 t c = put_digit _ _ (omega arith) (omega arith) c.put_digit.ensures
 
 pub put_digit-requires-2 : goal.put_digit-requires-2
-put_digit-requires-2 t c = 
-    let p = (omega (arith, c.put_digits-end.ensures.short)) in
-    record { fact_1 = p.0; fact_2 = p.1 }
+put_digit-requires-2 t c = record { fact_1 = omega arith; fact_2 = omega (arith, c.put_digits-end.ensures.short) }
 
 pub returns : goal.returns
 returns t c = put_last _ _ (omega arith) (omega arith) c.put_digits-end.ensures c.put_digit-2.ensures

@@ -7,9 +7,10 @@ use Rattle.answers.proofs.Replies.{reply_cut}
 use Rattle.answers.proofs.Ends.{into_room, lent_length, lent_room}
 use borrow.Author.Rules.{rules}
 use Rattle.answers.proofs.calls.answer.Goals as goal
+use Rattle.answers.proofs.calls.answer.Goals.{Else-not-is_whole}
 
 -- past the test the frame is whole
-whole : (c : goal.Else-not-is_whole) → Whole c.args.frame.now
+whole : (c : Else-not-is_whole) → Whole c.args.frame.now
 whole c = eqb-true _ _ (sym c.is_whole.ensures ∙ not-false _ c.if-not-is_whole.false)
 
 pub returns-then-not-is_whole : goal.returns-then-not-is_whole

@@ -7,9 +7,10 @@ use Rattle.answers.proofs.Replies.{reply_unknown, reply_told}
 use Rattle.answers.proofs.Texts.{paste_over}
 use borrow.Author.Rules.{rules}
 use Rattle.answers.proofs.calls.put_reply.Goals as goal
+use Rattle.answers.proofs.calls.put_reply.Goals.{After-reply_to-arg-1}
 
 -- the call is made on a copy of the frame's destination buffer
-copied : (c : goal.After-reply_to-arg-1) → c.copy_run.new.dst ≡ into_of c.args.frame.now
+copied : (c : After-reply_to-arg-1) → c.copy_run.new.dst ≡ into_of c.args.frame.now
 copied c =
     let lent = c.into in
     let held = c.args.into.now in

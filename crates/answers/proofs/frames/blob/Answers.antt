@@ -5,9 +5,10 @@ use lib.ListN.{length}
 use Rattle.answers.proofs.Ends.{blob_grows, blob_place, blob_lent}
 use borrow.Author.Rules.{rules}
 use Rattle.answers.proofs.frames.blob.Goals as goal
+use Rattle.answers.proofs.frames.blob.Goals.{After-blob_end-end}
 
 -- the blob stands in the frame
-place : (c : goal.After-blob_end-end) → (c.args.at + 4 ≤ c.blob_end-end.result) × (c.blob_end-end.result ≤ length c.args.frame.now)
+place : (c : After-blob_end-end) → (c.args.at + 4 ≤ c.blob_end-end.result) × (c.blob_end-end.result ≤ length c.args.frame.now)
 place c = blob_place _ _ _ c.requires c.blob_end-end.ensures
 
 pub overflow_add-start : goal.overflow_add-start

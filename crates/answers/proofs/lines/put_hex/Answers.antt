@@ -4,9 +4,10 @@ use native.Mathlib.Omega.{arith}
 use lib.ListN.{length, length-set}
 use Rattle.answers.proofs.Hexes.{Spelled, spelled_none, spelled_room, spelled_more, spelled_all}
 use Rattle.answers.proofs.lines.put_hex.Goals as goal
+use Rattle.answers.proofs.lines.put_hex.Goals.{After-hex_digit}
 
 -- two digits have room
-room : (c : goal.After-hex_digit) → c.loop-i.end + 1 < length c.loop-i.text
+room : (c : After-hex_digit) → c.loop-i.end + 1 < length c.loop-i.text
 room c = spelled_room c.loop-i.invariant c.requires (omega arith)
 
 pub loop-i-init : goal.loop-i-init

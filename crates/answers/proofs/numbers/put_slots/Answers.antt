@@ -5,8 +5,9 @@ use native.Mathlib.Omega.{arith}
 use lib.ListN.{length}
 use Rattle.answers.proofs.Slots.{Returned, returned_none, returned_length, returned_more, returned_all}
 use Rattle.answers.proofs.numbers.put_slots.Goals as goal
+use Rattle.answers.proofs.numbers.put_slots.Goals.{At-loop-i}
 
-kept : (c : goal.At-loop-i) → length c.loop-i.buffer ≡ length c.args.buffer.now
+kept : (c : At-loop-i) → length c.loop-i.buffer ≡ length c.args.buffer.now
 kept c = returned_length c.loop-i.invariant c.requires
 
 pub loop-i-init : goal.loop-i-init

@@ -10,9 +10,10 @@ use Rattle.families.specs.Decoded.{family_at, forest_at}
 use Rattle.families.proofs.Steps.{held}
 use Rattle.families.proofs.Turns.{Turn, turn_first, turn_room, turn_part, turn_next, turn_last, Left, left_all, left_step, left_family, left_next, left_none, inner_all, inner_has}
 use Rattle.families.proofs.painting.+paint_paint_family.Goals as goal
+use Rattle.families.proofs.painting.+paint_paint_family.Goals.{paint-In-loop-left, paint_family-In-loop-k}
 
 -- in a turn of the loop: the family stands in the row, and there are levels left
-paint-here : (t : ℕ) (c : goal.paint-In-loop-left t)
+paint-here : (t : ℕ) (c : paint-In-loop-left t)
     → let a = c.args in (6 * c.loop-left.at + 5 < length a.numbers.now) × (1 ≤ a.levels)
 paint-here t c =
     let S = left_step c.loop-left.invariant _ c.loop-left-test.true refl in
@@ -48,7 +49,7 @@ pub paint-returns : goal.paint-returns
 paint-returns t c = rw (inner_has _ _ _ _ c.if-count-eq0.false) (left_none c.loop-left.invariant (omega arith))
 
 -- in a turn of the loop: the segment is within the table
-paint-family-room :     (t : ℕ) (c : goal.paint_family-In-loop-k t)
+paint-family-room :     (t : ℕ) (c : paint_family-In-loop-k t)
     → c.loop-k.to ≤ length c.loop-k.table
 paint-family-room t c =
     turn_room c.args.f c.loop-k.invariant.0 c.requires.0 c.requires.1.0 c.loop-k-test.true

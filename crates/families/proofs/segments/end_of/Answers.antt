@@ -4,9 +4,10 @@ use Prim.Native.Nat.{◌-◌, ◌*◌}
 use native.Mathlib.Omega.{arith}
 use borrow.Author.Rules.{rules}
 use Rattle.families.proofs.segments.end_of.Goals as goal
+use Rattle.families.proofs.segments.end_of.Goals.{After-wide-3}
 
 -- how far the last segment's start lies from the first's
-stride : (c : goal.After-wide-3)
+stride : (c : After-wide-3)
     → let f = c.args.f in c.wide-2.result * c.wide-3.result ≡ (f.n - 1) * f.s
 stride c = ap₂ ◌*◌ c.wide-2.ensures c.wide-3.ensures
 

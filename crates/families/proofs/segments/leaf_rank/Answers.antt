@@ -8,9 +8,10 @@ use Rattle.families.specs.Decoded.{leaf_of}
 use Rattle.families.proofs.OneFamily.{sum_fits, leaf_rank_is}
 use borrow.Author.Rules.{rules}
 use Rattle.families.proofs.segments.leaf_rank.Goals as goal
+use Rattle.families.proofs.segments.leaf_rank.Goals.{After-wide}
 
 -- the sum of the page with both caps, once n segments are counted too
-counted : (c : goal.After-wide)
+counted : (c : After-wide)
     →
     let a = c.args in
     min (c.wide-segment.result * (c.wide-len.result + 1) + c.if-len-place.place) (c.wide.result * (c.wide-len.result + 1)) ≡ count_below (leaf_of a.f) a.x

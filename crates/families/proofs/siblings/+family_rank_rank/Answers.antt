@@ -15,16 +15,17 @@ use Rattle.families.proofs.Steps.{leaf, branch, rest_of}
 use Rattle.families.proofs.Loops.{Here, here, held_here, nested, rank_step, rank_none}
 use Prim.Native.Nat.{ℕ, ◌<◌}
 use Rattle.families.proofs.siblings.+family_rank_rank.Goals as goal
+use Rattle.families.proofs.siblings.+family_rank_rank.Goals.{family_rank-After-rank-part, family_rank-After-shared_slice_known-1, rank-After-family_at-f, rank-After-family_rank-sum, rank-After-shared_slice_known-1, rank-In-loop-left}
 
 abbrev Kids : (t : ℕ) → family-rank-lts.After-shared-slice-known (family-callees t) (family-rank-at t) family-rank.Post → Forest
 Kids t c = let a = c.args in forest_at a.levels (family_at a.numbers.now) a.first a.f.children
 
 -- the size of the children for each whole segment, and their rank for the part of one
-by-kids : (t : ℕ) (c : goal.family_rank-After-rank-part t)
+by-kids : (t : ℕ) (c : family_rank-After-rank-part t)
     → let a = c.args in
-    whole a.f.l a.f.s a.f.n a.x * c.size-each.result + c.rank-part.result ≡ count_below (segments_of a.f (inner (Kids t c.before.before.before.before))) a.x
+    whole a.f.l a.f.s a.f.n a.x * c.size-each.result + c.rank-part.result ≡ count_below (segments_of a.f (inner (Kids t (goal.at.family_rank-counted_before-requires t c).After-shared_slice_known-1))) a.x
 by-kids t c =
-    kids_count c.args.f (Kids t c.before.before.before.before) c.requires _ _ _ _ (branch _ _ _ _ c.if-children-eq0.false) c.size-each.ensures c.part_before-reach.ensures c.rank-part.ensures
+    kids_count c.args.f (Kids t (goal.at.family_rank-counted_before-requires t c).After-shared_slice_known-1) c.requires _ _ _ _ (branch _ _ _ _ c.if-children-eq0.false) c.size-each.ensures c.part_before-reach.ensures c.rank-part.ensures
 
 pub family_rank-leaf_rank-requires : goal.family_rank-leaf_rank-requires
 family_rank-leaf_rank-requires t c = c.requires.0
@@ -47,16 +48,16 @@ pub family_rank-returns : goal.family_rank-returns
 family_rank-returns t c = c.counted_before.ensures ∙ by-kids t (goal.at.family_rank-returns t c).After-rank-part
 
 -- the family at hand, which stands in the row
-held_at : (t : ℕ) (c : goal.rank-In-loop-left t) → 6 * c.loop-left.at + 5 < length c.args.numbers.now
+held_at : (t : ℕ) (c : rank-In-loop-left t) → 6 * c.loop-left.at + 5 < length c.args.numbers.now
 held_at t c = held_here c.args.levels c.args.numbers.now _ c.loop-left.left c.loop-left-test.true c.loop-left.invariant.0
 
-here-at : (t : ℕ) (c : goal.rank-After-family_at-f t)
+here-at : (t : ℕ) (c : rank-After-family_at-f t)
     → let a = c.args in
     Here a.levels (family_at a.numbers.now) c.loop-left.at c.loop-left.left c.family_at-f.result
 here-at t c = here _ _ _ _ _ c.loop-left-test.true c.loop-left.invariant.0 c.family_at-f.ensures
 
 -- the whole fits
-whole_le : (t : ℕ) (c : goal.rank-After-shared_slice_known-1 t)
+whole_le : (t : ℕ) (c : rank-After-shared_slice_known-1 t)
     → let a = c.args in
     count_below (has (forest_at a.levels (family_at a.numbers.now) a.first a.count)) a.x ≤ 2 ^ 32
 whole_le t c =
@@ -64,13 +65,13 @@ whole_le t c =
     omega (arith, count_le (has (forest_at a.levels (family_at a.numbers.now) a.first a.count)) a.x, c.ranges.x)
 
 -- what the family counts below x, and then the rest
-turn : (t : ℕ) (c : goal.rank-After-family_rank-sum t)
+turn : (t : ℕ) (c : rank-After-family_rank-sum t)
     → let a = c.args in
     let l = c.loop-left in
     let f = c.family_at-f.result in
     count_below (has (forest_at a.levels (family_at a.numbers.now) l.at l.left)) a.x
     ≡ c.family_rank-sum.result + count_below (has (rest_of a.levels (family_at a.numbers.now) l.at l.left f)) a.x
-turn t c = rank_step _ _ _ _ _ (here-at t c.before) c.args.x _ c.family_rank-sum.ensures
+turn t c = rank_step _ _ _ _ _ (here-at t (goal.at.rank-overflow_add-sum t c).After-family_at-f) c.args.x _ c.family_rank-sum.ensures
 
 pub rank-loop-left-init : goal.rank-loop-left-init
 rank-loop-left-init t c = (c.requires, omega arith)

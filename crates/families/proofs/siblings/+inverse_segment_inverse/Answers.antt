@@ -13,36 +13,37 @@ use Rattle.families.proofs.Steps.{leaf, branch, rest_of}
 use Rattle.families.proofs.Loops.{Here, here, held_here, nested, size_step, size_none, nth_in, nth_rest, nth_le, number_fits, place_lt}
 use Prim.Native.Nat.{ℕ, ◌<◌}
 use Rattle.families.proofs.siblings.+inverse_segment_inverse.Goals as goal
+use Rattle.families.proofs.siblings.+inverse_segment_inverse.Goals.{inverse-After-family_at-f, inverse-After-segment_inverse-inside, inverse-After-segment_size-each, inverse-At-loop-left, inverse-In-loop-left, inverse-Then-skip-here, segment_inverse-After-shared_slice_known-1, segment_inverse-Else-children-eq0}
 
 -- the family at hand, which stands in the row
-held_at : (t : ℕ) (c : goal.inverse-In-loop-left t) → 6 * c.loop-left.at + 5 < length c.args.numbers.now
+held_at : (t : ℕ) (c : inverse-In-loop-left t) → 6 * c.loop-left.at + 5 < length c.args.numbers.now
 held_at t c = held_here c.args.levels c.args.numbers.now _ c.loop-left.left c.loop-left-test.true c.loop-left.invariant.0
 
-here-at : (t : ℕ) (c : goal.inverse-After-family_at-f t)
+here-at : (t : ℕ) (c : inverse-After-family_at-f t)
     → let a = c.args in
     Here a.levels (family_at a.numbers.now) c.loop-left.at c.loop-left.left c.family_at-f.result
 here-at t c = here _ _ _ _ _ c.loop-left-test.true c.loop-left.invariant.0 c.family_at-f.ensures
 
 -- what is left fits
-left_le : (t : ℕ) (c : goal.inverse-At-loop-left t)
+left_le : (t : ℕ) (c : inverse-At-loop-left t)
     → size_of (forest_at c.args.levels (family_at c.args.numbers.now) c.loop-left.at c.loop-left.left) ≤ 2 ^ 32
 left_le t c = omega (arith, size_le 0 (2 ^ 32 - 1) _ c.loop-left.invariant.0)
 
 -- so many for each segment of the family, and then the rest
-turn : (t : ℕ) (c : goal.inverse-After-segment_size-each t)
+turn : (t : ℕ) (c : inverse-After-segment_size-each t)
     → let a = c.args in
     let l = c.loop-left in
     let f = c.family_at-f.result in
     size_of (forest_at a.levels (family_at a.numbers.now) l.at l.left)
     ≡ f.n * c.segment_size-each.result + size_of (rest_of a.levels (family_at a.numbers.now) l.at l.left f)
-turn t c = size_step _ _ _ _ _ (here-at t c.before) _ c.segment_size-each.ensures
+turn t c = size_step _ _ _ _ _ (here-at t (goal.at.inverse-counted_in_all-here-requires t c).After-family_at-f) _ c.segment_size-each.ensures
 
 -- the offset sought is in the family at hand
-within : (t : ℕ) (c : goal.inverse-Then-skip-here t) → c.loop-left.skip < c.family_at-f.result.n * c.segment_size-each.result
+within : (t : ℕ) (c : inverse-Then-skip-here t) → c.loop-left.skip < c.family_at-f.result.n * c.segment_size-each.result
 within t c = omega (arith, c.if-skip-here.true, c.counted_in_all-here.ensures)
 
 -- and is found there, and fits
-found : (t : ℕ) (c : goal.inverse-After-segment_inverse-inside t)
+found : (t : ℕ) (c : inverse-After-segment_inverse-inside t)
     → let a = c.args in
     let l = c.loop-left in
     let f = c.family_at-f.result in
@@ -51,7 +52,7 @@ found : (t : ℕ) (c : goal.inverse-After-segment_inverse-inside t)
     (x ≡ nth (has F) (end_of F) l.skip) × (x ≤ 2 ^ 32 - 1)
 found t c =
     let l = c.loop-left in
-    let is = nth_in _ _ _ _ _ (here-at t c.before.before.before.before) _ c.segment_size-each.ensures _ _ (within t c.before) c.segment_inverse-inside.ensures in
+    let is = nth_in _ _ _ _ _ (here-at t (goal.at.inverse-nonzero_div-k t c).After-family_at-f) _ c.segment_size-each.ensures _ _ (within t (goal.at.inverse-nonzero_div-k t c).Then-skip-here) c.segment_inverse-inside.ensures in
     (is, omega (arith, is, nth_le _ (2 ^ 32 - 1) _ l.invariant.0 l.invariant.1))
 
 pub inverse-loop-left-init : goal.inverse-loop-left-init
@@ -129,8 +130,8 @@ abbrev Kids : (t : ℕ) → segment-inverse-lts.After-shared-slice-known (invers
 Kids t c = let a = c.args in forest_at a.levels (family_at a.numbers.now) a.first a.f.children
 
 -- what is sought is among what the children select
-below : (t : ℕ) (c : goal.segment_inverse-Else-children-eq0 t) → c.args.y < size_of (Kids t c.before)
-below t c = omega (arith, c.requires.1, each_kids _ (Kids t c.before) c.requires.0.1 (branch _ _ _ _ c.if-children-eq0.false))
+below : (t : ℕ) (c : segment_inverse-Else-children-eq0 t) → c.args.y < size_of (Kids t (goal.at.segment_inverse-inverse-requires t c).After-shared_slice_known-1)
+below t c = omega (arith, c.requires.1, each_kids _ (Kids t (goal.at.segment_inverse-inverse-requires t c).After-shared_slice_known-1) c.requires.0.1 (branch _ _ _ _ c.if-children-eq0.false))
 
 pub segment_inverse-overflow_cast-result : goal.segment_inverse-overflow_cast-result
 segment_inverse-overflow_cast-result t c = omega (arith, c.requires.1, segment_le c.args.f (Kids t (goal.at.segment_inverse-overflow_cast-result t c).After-shared_slice_known-1) c.requires.0)

@@ -13,6 +13,7 @@ use Rattle.families.proofs.Steps.{leaf, branch, rest_of}
 use Rattle.families.proofs.Loops.{Here, here, held_here, nested, size_step, size_none}
 use Prim.Native.Nat.{ℕ, ◌<◌}
 use Rattle.families.proofs.siblings.+segment_size_size.Goals as goal
+use Rattle.families.proofs.siblings.+segment_size_size.Goals.{size-After-family_at-f, size-After-segment_size-each, size-After-shared_slice_known-1, size-In-loop-left}
 
 pub segment_size-returns-then-children-eq0 : goal.segment_size-returns-then-children-eq0
 segment_size-returns-then-children-eq0 t c =
@@ -26,27 +27,27 @@ pub segment_size-returns : goal.segment_size-returns
 segment_size-returns t c = c.size.ensures ∙ sym (each_kids _ _ c.requires.1 (branch _ _ _ _ c.if-children-eq0.false))
 
 -- the family at hand, which stands in the row
-held_at : (t : ℕ) (c : goal.size-In-loop-left t) → 6 * c.loop-left.at + 5 < length c.args.numbers.now
+held_at : (t : ℕ) (c : size-In-loop-left t) → 6 * c.loop-left.at + 5 < length c.args.numbers.now
 held_at t c = held_here c.args.levels c.args.numbers.now _ c.loop-left.left c.loop-left-test.true c.loop-left.invariant.0
 
-here-at : (t : ℕ) (c : goal.size-After-family_at-f t)
+here-at : (t : ℕ) (c : size-After-family_at-f t)
     → let a = c.args in
     Here a.levels (family_at a.numbers.now) c.loop-left.at c.loop-left.left c.family_at-f.result
 here-at t c = here _ _ _ _ _ c.loop-left-test.true c.loop-left.invariant.0 c.family_at-f.ensures
 
 -- the whole fits
-whole_le : (t : ℕ) (c : goal.size-After-shared_slice_known-1 t)
+whole_le : (t : ℕ) (c : size-After-shared_slice_known-1 t)
     → size_of (forest_at c.args.levels (family_at c.args.numbers.now) c.args.first c.args.count) ≤ 2 ^ 32
 whole_le t c = omega (arith, size_le 0 (2 ^ 32 - 1) _ c.requires)
 
 -- so many for each segment of the family, and then the rest
-turn : (t : ℕ) (c : goal.size-After-segment_size-each t)
+turn : (t : ℕ) (c : size-After-segment_size-each t)
     → let a = c.args in
     let l = c.loop-left in
     let f = c.family_at-f.result in
     size_of (forest_at a.levels (family_at a.numbers.now) l.at l.left)
     ≡ f.n * c.segment_size-each.result + size_of (rest_of a.levels (family_at a.numbers.now) l.at l.left f)
-turn t c = size_step _ _ _ _ _ (here-at t c.before) _ c.segment_size-each.ensures
+turn t c = size_step _ _ _ _ _ (here-at t (goal.at.size-counted_in_all-sum-requires t c).After-family_at-f) _ c.segment_size-each.ensures
 
 pub size-loop-left-init : goal.size-loop-left-init
 size-loop-left-init t c = (c.requires, omega arith)

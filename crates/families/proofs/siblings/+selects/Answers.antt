@@ -11,13 +11,14 @@ use Rattle.families.proofs.NestedFamily.{kids_sound}
 use Rattle.families.proofs.Loops.{Here, here, held_here, nested, has_leaf, has_kids, has_rest, has_none}
 use Prim.Native.Nat.{ℕ, ◌<◌}
 use Rattle.families.proofs.siblings.+selects.Goals as goal
+use Rattle.families.proofs.siblings.+selects.Goals.{After-family_at-f, In-loop-left}
 
 -- the family at hand stands in the row
-held_at : (t : ℕ) (c : goal.In-loop-left t) → 6 * c.loop-left.at + 5 < length c.args.numbers.now
+held_at : (t : ℕ) (c : In-loop-left t) → 6 * c.loop-left.at + 5 < length c.args.numbers.now
 held_at t c = held_here c.args.levels c.args.numbers.now _ c.loop-left.left c.loop-left-test.true c.loop-left.invariant.0
 
 -- the family at hand
-here-at : (t : ℕ) (c : goal.After-family_at-f t)
+here-at : (t : ℕ) (c : After-family_at-f t)
     → let a = c.args in
     Here a.levels (family_at a.numbers.now) c.loop-left.at c.loop-left.left c.family_at-f.result
 here-at t c = here _ _ _ _ _ c.loop-left-test.true c.loop-left.invariant.0 c.family_at-f.ensures

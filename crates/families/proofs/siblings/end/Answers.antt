@@ -8,14 +8,15 @@ use Rattle.families.specs.Forest.{end_of, Sound}
 use Rattle.families.specs.Decoded.{family_at, forest_at}
 use Rattle.families.proofs.Loops.{Here, here, held_here, end_step, end_none}
 use Rattle.families.proofs.siblings.end.Goals as goal
+use Rattle.families.proofs.siblings.end.Goals.{After-family_at-f, In-loop-left}
 
 -- the family at hand, which stands in the row
-held_at : (c : goal.In-loop-left) → 6 * c.loop-left.at + 5 < length c.args.numbers.now
+held_at : (c : In-loop-left) → 6 * c.loop-left.at + 5 < length c.args.numbers.now
 held_at c =
     let a = c.args in
     held_here a.levels a.numbers.now _ c.loop-left.left c.loop-left-test.true c.loop-left.invariant.0
 
-here-at : (c : goal.After-family_at-f)
+here-at : (c : After-family_at-f)
     → let a = c.args in
     Here a.levels (family_at a.numbers.now) c.loop-left.at c.loop-left.left c.family_at-f.result
 here-at c = here _ _ _ _ _ c.loop-left-test.true c.loop-left.invariant.0 c.family_at-f.ensures
@@ -35,7 +36,7 @@ next-at-requires c = omega (arith, held_at (goal.at.next-at-requires c).In-loop-
 pub loop-left-preserved : goal.loop-left-preserved
 loop-left-preserved c =
     let H = here-at (goal.at.loop-left-preserved c).After-family_at-f in
-    let past = c.end_of_lem.ensures in
+    let past = c.end_of-past.ensures in
     let more = end_step _ _ _ _ _ H in
     rw c.next-at.ensures (H.rest_ok, ⊎_elim (λ w. omega (arith, past, more)) (λ w. omega (arith, past, more)) c.if-end-past.branch)
 

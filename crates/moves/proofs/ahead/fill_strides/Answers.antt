@@ -6,16 +6,17 @@ use lib.ListN.{get_or, set}
 use borrow.Author.Rules.{rules}
 use Rattle.moves.proofs.Filling.{Turned, Filling, Fitting, filling_start, filling_turn, filling_same, filling_fits, filling_next, filling_all}
 use Rattle.moves.proofs.ahead.fill_strides.Goals as goal
+use Rattle.moves.proofs.ahead.fill_strides.Goals.{After-row_known-1, Then-owner-last}
 
 -- where another owner has the place, that one has the run, of none yet
-turn : (c : goal.Then-owner-last) →let s = c.args in
+turn : (c : Then-owner-last) →let s = c.args in
     let owner = get_or s.owners.now (c.loop-place.place - 1) 0 in let nexts = set c.loop-place.nexts c.loop-place.last (c.loop-place.place - 1 + 1) in
     Turned s.owners.now s.period s.nexts.now c.loop-place.place owner 0 (get_or nexts owner 0 - (c.loop-place.place - 1) - 1) nexts
 turn c =
     filling_turn c.loop-place.invariant c.loop-place-test.true c.requires.fact_1 c.if-owner-last.true
 
 -- where the two ways meet, the owner of the place has the run
-turned : (c : goal.After-row_known-1) →let s = c.args in
+turned : (c : After-row_known-1) →let s = c.args in
     Turned s.owners.now s.period s.nexts.now c.loop-place.place c.if-owner-last.new c.if-owner-last.run c.if-owner-last.gap c.if-owner-last.nexts
 turned c =
     ⊎_elim
@@ -23,7 +24,7 @@ turned c =
     (λ w. rw (w.1, w.2, w.3, w.4) (filling_same c.loop-place.invariant w.0.left))
     c.if-owner-last.branch
 
-fits : (c : goal.After-row_known-1) →
+fits : (c : After-row_known-1) →
     Fitting c.loop-place.place c.if-owner-last.run c.if-owner-last.gap c.loop-place.runs c.loop-place.hops
 fits c = filling_fits c.loop-place.invariant c.loop-place-test.true (turned c)
 

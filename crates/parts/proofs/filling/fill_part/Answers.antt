@@ -12,9 +12,10 @@ use Rattle.parts.proofs.Piecing.{piece_asks, step_just}
 use Rattle.parts.proofs.Renewing.{Renewing, renewing_start, renewing_end, AtPiece, source_asked, copy_asked, beyond_asked, far_least, far_over}
 use Rattle.parts.proofs.Renewing.{piece_forward, piece_copied, piece_passed}
 use Rattle.parts.proofs.filling.fill_part.Goals as goal
+use Rattle.parts.proofs.filling.fill_part.Goals.{After-piece_at-piece, Joined-then-only-eq0}
 
 -- what is known at a piece
-here : (c : goal.After-piece_at-piece) →
+here : (c : After-piece_at-piece) →
     let args = c.args in
     AtPiece args.s (belongs args.s args.numbers.now) args.runs.now args.hops.now args.window.start.0 (bytes_of args.window)
     args.cycle args.owners.now args.keeps.now args.skips.now args.ranks.now args.shares.now args.only
@@ -32,7 +33,7 @@ here c =
     }
 
 -- .. that is taken
-chosen : (c : goal.Joined-then-only-eq0) →
+chosen : (c : Joined-then-only-eq0) →
     let only = c.args.only in
     (only ≡ 0) ⊎ (only ≡ c.piece_at-piece.result.owner)
 chosen c = ⊎_elim (λ v. inl v.taken) (λ v. inr (eqb-true _ _ v.2.taken)) c.if-only-eq0.branch

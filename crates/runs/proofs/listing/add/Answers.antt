@@ -9,9 +9,10 @@ use borrow.Author.Rules.{rules}
 use Rattle.runs.specs.Listing.{filled, with_run}
 use Rattle.runs.proofs.Fillings.{none_written, four_written, length_with_run}
 use Rattle.runs.proofs.listing.add.Goals as goal
+use Rattle.runs.proofs.listing.add.Goals.{Joined-next-list}
 
 -- what stands in the list where the two ways meet
-written : (c : goal.Joined-next-list)
+written : (c : Joined-next-list)
     → let a = c.args in c.if-next-list.list ≡ with_run a.list.now a.runs (a.walk.x.0 ∷ a.len ∷ a.walk.one.rank.0 ∷ a.walk.two.rank.0 ∷ [])
 written c = ⊎_elim (λ w. w.1 ∙ four_written _ _ _ _ _ _ w.0.taken) (λ w. w.1 ∙ none_written _ _ _ w.0.left) c.if-next-list.branch
 

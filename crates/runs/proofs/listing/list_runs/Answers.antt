@@ -4,9 +4,10 @@ use native.Mathlib.Omega.{arith}
 use Rattle.runs.specs.Walking.{tabled, Walks}
 use Rattle.runs.proofs.Handing.{Handing, handing_first, ran, further, handing_next, handing_all}
 use Rattle.runs.proofs.listing.list_runs.Goals as goal
+use Rattle.runs.proofs.listing.list_runs.Goals.{After-struct_known-in-loop-at-2-1}
 
 -- the run that starts where the loop stands is not empty, and ends in the window
-run_past : (c : goal.After-struct_known-in-loop-at-2-1)
+run_past : (c : After-struct_known-in-loop-at-2-1)
     →
     let past = c.pass-past.result.x.0 in (c.loop-at.at.x.0 < past) × (past ≤ c.args.end.0)
 run_past c = ran _ _ _ c.loop-at.invariant.1 c.loop-at-test.true _ c.pass-past.ensures.up_to

@@ -13,24 +13,25 @@ use Rattle.sheets.proofs.SheetSteps.{ProgressGot, progress_got, progress_refused
 use Rattle.sheets.proofs.Answers.{answer_refused, answer_got, layout_is, row_is, row_used, ends_some, ends_most, ok_ended, judged_is, end_is}
 use borrow.Author.Rules.{rules}
 use Rattle.sheets.proofs.answer.read.Goals as goal
+use Rattle.sheets.proofs.answer.read.Goals.{After-struct_known-2-1, Else-all-ne0}
 
 -- what reading the records answered: the sheet's elements
-got-at : (c : goal.Else-all-ne0)
+got-at : (c : Else-all-ne0)
     →
     ProgressGot start c.read_records-all.result (elements_of c.args.sheet.now)
 got-at c =progress_got _ _ _ (sheet_numbered _) c.read_records-all.ensures.fact_1 c.if-all-ne0.false
 
-sheet-at : (c : goal.Else-all-ne0) → SheetRead c.args.sheet.now (got-at c).elements
+sheet-at : (c : Else-all-ne0) → SheetRead c.args.sheet.now (got-at c).elements
 sheet-at c = sheet_read _ _ (got-at c).is
 
-written_at : (c : goal.Else-all-ne0) → WrittenAll (got (got-at c).elements) empty_row c.read_records-all.new.numbers
+written_at : (c : Else-all-ne0) → WrittenAll (got (got-at c).elements) empty_row c.read_records-all.new.numbers
 written_at c = rw (got-at c).is at c.read_records-all.ensures.fact_2
 
 -- and the layout that they are
-layout-at : (c : goal.After-struct_known-2-1) → c.decoded-layout.result ≡ layout_of (le32 c.args.sheet.now 4) (got-at c.before.before.before.before).elements
+layout-at : (c : After-struct_known-2-1) → c.decoded-layout.result ≡ layout_of (le32 c.args.sheet.now 4) (got-at (goal.at.overflow_cast-all c).Else-all-ne0).elements
 layout-at c =
-    let S = sheet-at c.before.before.before.before in
-    c.decoded-layout.ensures ∙ rw c.le32_at-displacement.ensures (layout_is _ S.most S.room _ _ _ (got-at c.before.before.before.before).progress (written_at c.before.before.before.before))
+    let S = sheet-at (goal.at.overflow_cast-all c).Else-all-ne0 in
+    c.decoded-layout.ensures ∙ rw c.le32_at-displacement.ensures (layout_is _ S.most S.room _ _ _ (got-at (goal.at.overflow_cast-all c).Else-all-ne0).progress (written_at (goal.at.overflow_cast-all c).Else-all-ne0))
 
 pub returns-then-all-ne0 : goal.returns-then-all-ne0
 unfolding start

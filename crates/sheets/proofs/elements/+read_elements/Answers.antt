@@ -15,60 +15,61 @@ use Rattle.sheets.specs.Refusals.{refused}
 use Rattle.sheets.specs.declared.trees.Step.{Step}
 use Rattle.sheets.specs.declared.elements.Progress.{Progress}
 use Rattle.sheets.proofs.elements.+read_elements.Goals as goal
+use Rattle.sheets.proofs.elements.+read_elements.Goals.{After-read_siblings-step, After-record_fault-fault, After-struct_known-1, After-struct_known-3-1, Else-fault-ne0, Start}
 
 -- what the caller gives
-families-small : (t : ℕ) (c : goal.Start t) → c.args.done.families ≤ 256
+families-small : (t : ℕ) (c : Start t) → c.args.done.families ≤ 256
 families-small t c = omega arith
 
-room_at : (t : ℕ) (c : goal.Start t) → length c.args.numbers.now ≡ 6 * (256 - c.args.done.families)
+room_at : (t : ℕ) (c : Start t) → length c.args.numbers.now ≡ 6 * (256 - c.args.done.families)
 room_at t c = omega arith
 
-elements_few : (t : ℕ) (c : goal.Start t) → c.args.done.elements + c.args.count ≤ 16
+elements_few : (t : ℕ) (c : Start t) → c.args.done.elements + c.args.count ≤ 16
 elements_few t c = omega arith
 
 -- an element is left to read
-some_left : (t : ℕ) (c : goal.After-struct_known-1 t) → 0 < c.args.count
+some_left : (t : ℕ) (c : After-struct_known-1 t) → 0 < c.args.count
 some_left t c = omega arith
 
 -- what the record's checks said
-fault-at : (t : ℕ) (c : goal.After-record_fault-fault t)
+fault-at : (t : ℕ) (c : After-record_fault-fault t)
     → let a = c.args in
     c.record_fault-fault.result ≡ fault 4 (top (256 - a.done.families)) a.sheet.now 2 a.done.place
 fault-at t c = rw c.top_limits-limits.ensures at c.record_fault-fault.ensures
 
 -- the element record at hand has no fault
-there-at : (t : ℕ) (c : goal.Else-fault-ne0 t)
+there-at : (t : ℕ) (c : Else-fault-ne0 t)
     → let a = c.args in
     (a.done.place + 6 ≤ length a.sheet.now) × (1 ≤ le16 a.sheet.now (a.done.place + 4))
 there-at t c =
     let a = c.args in
-    element_there a.sheet.now (256 - a.done.families) a.count a.done.place (omega arith) _ (fault-at t c.before) c.if-fault-ne0.false
+    element_there a.sheet.now (256 - a.done.families) a.count a.done.place (omega arith) _ (fault-at t (goal.at.overflow_add-at t c).After-record_fault-fault) c.if-fault-ne0.false
 
 -- what reading its families answered
-families-step : (t : ℕ) (c : goal.After-read_siblings-step t)
+families-step : (t : ℕ) (c : After-read_siblings-step t)
     → let a = c.args in
     let R = families_of a.sheet.now (256 - a.done.families) a.done.place in
     (c.read_siblings-step.result ≡ step_of (a.done.place + 6) 0 R) × Written R a.numbers.now c.read_siblings-step.new.numbers
 families-step t c = rw (c.top_limits-limits.ensures, c.le16_at-tops.ensures.0) at c.read_siblings-step.ensures
 
-taken_at : (t : ℕ) (c : goal.After-struct_known-3-1 t)
+taken_at : (t : ℕ) (c : After-struct_known-3-1 t)
     →
     let a = c.args in
     ElementTaken a.sheet.now (256 - a.done.families) a.count a.done.place c.read_siblings-step.result
 taken_at t c =
-    element_got _ _ _ _ (omega arith) _ (fault-at t c.before.before.before.before.before.before.before.before.before) c.if-fault-ne0.false _ (families-step t c.before.before.before.before.before).0 c.if-step-ne0.false
+    element_got _ _ _ _ (omega arith) _ (fault-at t (goal.at.overflow_sub-span t c).After-record_fault-fault) c.if-fault-ne0.false _ (families-step t (goal.at.overflow_sub-span t c).After-read_siblings-step).0 c.if-step-ne0.false
 
 -- the row with its families is as long as it was, and has room for them
-row-long : (t : ℕ) (c : goal.After-read_siblings-step t)
+row-long : (t : ℕ) (c : After-read_siblings-step t)
     → length c.read_siblings-step.new.numbers ≡ length c.args.numbers.now
 row-long t c = search rules
 
-row_room : (t : ℕ) (c : goal.After-struct_known-3-1 t)
+row_room : (t : ℕ) (c : After-struct_known-3-1 t)
     →
     6 * ((c.read_siblings-step.result.place - c.args.done.place - 6) / 22) ≤ length c.read_siblings-step.new.numbers
 row_room t c =
     let T = taken_at t c in
-    omega (arith, T.span, T.fits, row-long t c.before.before.before.before.before, room_at t c.before.before.before.before.before.before.before.before.before.before.before.before.before.before.before)
+    omega (arith, T.span, T.fits, row-long t (goal.at.overflow_sub-span t c).After-read_siblings-step, room_at t (goal.at.overflow_sub-span t c).Start)
 
 pub returns-then-count-eq0 : goal.returns-then-count-eq0
 returns-then-count-eq0 t c = progress_none _ _ _ _ c.if-count-eq0.true _ _

@@ -10,20 +10,21 @@ use Rattle.sheets.proofs.SheetSteps.{header_refused, header_there, elements_refu
 use Rattle.sheets.proofs.ElementSteps.{refused_on_all}
 use borrow.Author.Rules.{rules}
 use Rattle.sheets.proofs.elements.read_records.Goals as goal
+use Rattle.sheets.proofs.elements.read_records.Goals.{After-read_elements-all, After-record_fault-fault, Else-all-ne0}
 
 -- what the header's checks said
-fault-at : (c : goal.After-record_fault-fault) → c.record_fault-fault.result ≡ fault 4 (top 256) c.args.sheet.now 1 0
+fault-at : (c : After-record_fault-fault) → c.record_fault-fault.result ≡ fault 4 (top 256) c.args.sheet.now 1 0
 fault-at c = rw c.top_limits.ensures at c.record_fault-fault.ensures
 
 -- what reading the elements answered
-elements-step : (c : goal.After-read_elements-all)
+elements-step : (c : After-read_elements-all)
     → let a = c.args in
     let R = elements_from a.sheet.now 256 (le16 a.sheet.now 8) 10 in
     Progressed R start c.read_elements-all.result × WrittenAll R a.numbers.now c.read_elements-all.new.numbers
 unfolding start
 elements-step c = rw (c.at_the_start-begin.ensures, c.le16_at-count.ensures.0) at c.read_elements-all.ensures
 
-got-at : (c : goal.Else-all-ne0)
+got-at : (c : Else-all-ne0)
     →
     let xs = c.args.sheet.now in
     ProgressGot start c.read_elements-all.result (elements_from xs 256 (le16 xs 8) 10)

@@ -7,9 +7,10 @@ use Rattle.sheets.proofs.Verdicts.{family_many, family_segment, family_span, fam
 use Rattle.sheets.proofs.Faults.{segment_taken}
 use borrow.Author.Rules.{rules}
 use Rattle.sheets.proofs.records.family_fault.Goals as goal
+use Rattle.sheets.proofs.records.family_fault.Goals.{Else-bad_segment}
 
 -- the segments are fine
-fine : (c : goal.Else-bad_segment) → bad_segment c.args.f ≡ false
+fine : (c : Else-bad_segment) → bad_segment c.args.f ≡ false
 fine c = sym c.bad_segment.ensures ∙ c.if-bad_segment.false
 
 pub returns-then-limits-eq0 : goal.returns-then-limits-eq0

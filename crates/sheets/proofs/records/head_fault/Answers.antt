@@ -7,16 +7,17 @@ use Rattle.sheets.specs.Records.{length_of}
 use Rattle.sheets.proofs.Verdicts.{head_kind, head_length, head_cut, head_good}
 use borrow.Author.Rules.{rules}
 use Rattle.sheets.proofs.records.head_fault.Goals as goal
+use Rattle.sheets.proofs.records.head_fault.Goals.{Else-kind-due, Else-le16_at-long}
 
 -- the kind is the one that is due, so that its length is due too
-kind_is : (c : goal.Else-kind-due) → let a = c.args in le16 a.sheet.now (a.at + 2) ≡ a.due
+kind_is : (c : Else-kind-due) → let a = c.args in le16 a.sheet.now (a.at + 2) ≡ a.due
 kind_is c = sym c.requires.fact_2 ∙ c.if-kind-due.false
 
-due-length : (c : goal.Else-kind-due) → let a = c.args in a.long ≡ length_of a.due
+due-length : (c : Else-kind-due) → let a = c.args in a.long ≡ length_of a.due
 due-length c = c.requires.fact_3 ∙ ap length_of c.if-kind-due.false
 
-length_is : (c : goal.Else-le16_at-long) → let a = c.args in le16 a.sheet.now a.at ≡ length_of a.due
-length_is c = sym c.le16_at.ensures.0 ∙ c.if-le16_at-long.false ∙ due-length c.before.before
+length_is : (c : Else-le16_at-long) → let a = c.args in le16 a.sheet.now a.at ≡ length_of a.due
+length_is c = sym c.le16_at.ensures.0 ∙ c.if-le16_at-long.false ∙ due-length (goal.at.overflow_sub-sheet c).Else-kind-due
 
 pub returns-then-kind-due : goal.returns-then-kind-due
 returns-then-kind-due c = head_kind _ _ _ (omega arith) (λ e. c.if-kind-due.true (c.requires.fact_2 ∙ e))

@@ -8,15 +8,16 @@ use Rattle.sheets.proofs.Verdicts.{header_length, element_length, family_length,
 use Rattle.sheets.proofs.Faults.{head_done}
 use borrow.Author.Rules.{rules}
 use Rattle.sheets.proofs.records.record_fault.Goals as goal
+use Rattle.sheets.proofs.records.record_fault.Goals.{Else-head-ne0, Else-head-ne0-2, Else-head-ne0-3}
 
 -- where the head has no fault, the arm's kind is due, and the record is there to its end
-header-done : (c : goal.Else-head-ne0) → let a = c.args in (a.due ≡ 1) × (a.at + 2 + length_of 1 ≤ length a.sheet.now)
+header-done : (c : Else-head-ne0) → let a = c.args in (a.due ≡ 1) × (a.at + 2 + length_of 1 ≤ length a.sheet.now)
 header-done c = head_done _ _ _ 1 _ c.head_fault-head.ensures c.if-head-ne0.false (sym c.le16_at-kind.ensures.0 ∙ c.in-0.keys1)
 
-element-done : (c : goal.Else-head-ne0-2) → let a = c.args in (a.due ≡ 2) × (a.at + 2 + length_of 2 ≤ length a.sheet.now)
+element-done : (c : Else-head-ne0-2) → let a = c.args in (a.due ≡ 2) × (a.at + 2 + length_of 2 ≤ length a.sheet.now)
 element-done c = head_done _ _ _ 2 _ c.head_fault-head-in-2.ensures c.if-head-ne0-2.false (sym c.le16_at-kind.ensures.0 ∙ c.in-0.keys2)
 
-family-done : (c : goal.Else-head-ne0-3) → let a = c.args in (a.due ≡ 3) × (a.at + 2 + length_of 3 ≤ length a.sheet.now)
+family-done : (c : Else-head-ne0-3) → let a = c.args in (a.due ≡ 3) × (a.at + 2 + length_of 3 ≤ length a.sheet.now)
 family-done c = head_done _ _ _ 3 _ c.head_fault-head-in-3.ensures c.if-head-ne0-3.false (sym c.le16_at-kind.ensures.0 ∙ c.in-0.keys3)
 
 pub returns-then-sheet-at-lt4 : goal.returns-then-sheet-at-lt4

@@ -18,56 +18,57 @@ use Rattle.sheets.specs.Records.{family_record, last_of}
 use Rattle.families.specs.Flat.{total}
 use Rattle.sheets.specs.Steps.{step_of, Written}
 use Rattle.sheets.proofs.trees.+read_family_read_siblings.Goals as goal
+use Rattle.sheets.proofs.trees.+read_family_read_siblings.Goals.{read_family-After-read_siblings-kids, read_family-After-slice_known-1, read_family-After-struct_known-2-1, read_family-Else-fault-ne0, read_siblings-After-read_family-arg-1, read_siblings-After-read_family-first, read_siblings-After-struct_known-2-1, read_siblings-Start}
 
 -- what the caller gives
-level-left : (t : ℕ) (c : goal.read_family-After-slice_known-1 t) → 1 ≤ c.args.levels
+level-left : (t : ℕ) (c : read_family-After-slice_known-1 t) → 1 ≤ c.args.levels
 level-left t c = omega arith
 
-room_small : (t : ℕ) (c : goal.read_family-After-slice_known-1 t) → c.args.limits.room ≤ 256
+room_small : (t : ℕ) (c : read_family-After-slice_known-1 t) → c.args.limits.room ≤ 256
 room_small t c = omega arith
 
-row-long : (t : ℕ) (c : goal.read_family-After-slice_known-1 t) → length c.args.numbers.now ≡ 6 * c.args.limits.room
+row-long : (t : ℕ) (c : read_family-After-slice_known-1 t) → length c.args.numbers.now ≡ 6 * c.args.limits.room
 row-long t c = omega arith
 
 -- the family record at hand has no fault
-taken_at : (t : ℕ) (c : goal.read_family-Else-fault-ne0 t)
+taken_at : (t : ℕ) (c : read_family-Else-fault-ne0 t)
     → let a = c.args in
     FamilyTaken a.sheet.now a.levels a.limits a.at
-taken_at t c = taken _ _ _ _ (level-left t c.before.before) _ c.record_fault-fault.ensures c.if-fault-ne0.false
+taken_at t c = taken _ _ _ _ (level-left t (goal.at.read_family-family_record-f-requires t c).After-slice_known-1) _ c.record_fault-fault.ensures c.if-fault-ne0.false
 
 -- what reading its children answered
-kids-step : (t : ℕ) (c : goal.read_family-After-read_siblings-kids t)
+kids-step : (t : ℕ) (c : read_family-After-read_siblings-kids t)
     → let a = c.args in
     c.read_siblings-kids.result ≡ step_of (a.at + 22) 0 (children a.sheet.now (a.levels - 1) a.limits a.at)
 kids-step t c = rw (c.inner_limits.ensures, c.family_record-f.ensures.fact_1) at c.read_siblings-kids.ensures.0
 
-kids-at : (t : ℕ) (c : goal.read_family-After-struct_known-2-1 t)
+kids-at : (t : ℕ) (c : read_family-After-struct_known-2-1 t)
     → let a = c.args in
     KidsRead a.sheet.now a.levels a.limits a.at c.read_siblings-kids.result
 kids-at t c =
-    kids_read _ _ _ _ (level-left t c.before.before.before.before.before.before.before.before.before.before.before) _ c.record_fault-fault.ensures c.if-fault-ne0.false _ (kids-step t c.before.before.before.before.before) c.if-kids-ne0.false
+    kids_read _ _ _ _ (level-left t (goal.at.read_family-overflow_sub-span t c).After-slice_known-1) _ c.record_fault-fault.ensures c.if-fault-ne0.false _ (kids-step t (goal.at.read_family-overflow_sub-span t c).After-read_siblings-kids) c.if-kids-ne0.false
 
-kids-few : (t : ℕ) (c : goal.read_family-After-struct_known-2-1 t) → suc (total (kids-at t c).kids) ≤ 256
+kids-few : (t : ℕ) (c : read_family-After-struct_known-2-1 t) → suc (total (kids-at t c).kids) ≤ 256
 kids-few t c =
-    omega (arith, (kids-at t c).room, room_small t c.before.before.before.before.before.before.before.before.before.before.before)
+    omega (arith, (kids-at t c).room, room_small t (goal.at.read_family-overflow_sub-span t c).After-slice_known-1)
 
 -- the row with the children's numbers in it, as long as it was
-abbrev kids-row : (t : ℕ) (c : goal.read_family-After-read_siblings-kids t) → List ℕ
+abbrev kids-row : (t : ℕ) (c : read_family-After-read_siblings-kids t) → List ℕ
 kids-row t c =
     let row = c.args.numbers.now in
     take 6 row ++ (c.read_siblings-kids.new.numbers ++ drop (length row - 6) (drop 6 row))
 
-kids-row-long : (t : ℕ) (c : goal.read_family-After-read_siblings-kids t)
+kids-row-long : (t : ℕ) (c : read_family-After-read_siblings-kids t)
     → length (kids-row t c) ≡ length c.args.numbers.now
 kids-row-long t c =
     let row = c.args.numbers.now in
     same_len_mid 6 (length row - 6) row c.read_siblings-kids.new.numbers (search rules)
 
-kids-row-room : (t : ℕ) (c : goal.read_family-After-read_siblings-kids t) → 6 ≤ length (kids-row t c)
+kids-row-room : (t : ℕ) (c : read_family-After-read_siblings-kids t) → 6 ≤ length (kids-row t c)
 kids-row-room t c = omega (arith, kids-row-long t c, (taken_at t c.before.before.before.before).room)
 
 -- and they stand behind room for the family's own
-kids-written : (t : ℕ) (c : goal.read_family-After-read_siblings-kids t)
+kids-written : (t : ℕ) (c : read_family-After-read_siblings-kids t)
     → let a = c.args in
     Written (children a.sheet.now (a.levels - 1) a.limits a.at) (take (length a.numbers.now - 6) (drop 6 a.numbers.now)) c.read_siblings-kids.new.numbers
 kids-written t c = rw (c.inner_limits.ensures, c.family_record-f.ensures.fact_1) at c.read_siblings-kids.ensures.1
@@ -148,36 +149,36 @@ read_family-returns t c =
     )
 
 -- what the caller gives
-level-left-2 : (t : ℕ) (c : goal.read_siblings-After-read_family-arg-1 t) → 1 ≤ c.args.levels
+level-left-2 : (t : ℕ) (c : read_siblings-After-read_family-arg-1 t) → 1 ≤ c.args.levels
 level-left-2 t c = omega arith
 
-room-small-2 : (t : ℕ) (c : goal.read_siblings-Start t) → c.args.limits.room ≤ 256
+room-small-2 : (t : ℕ) (c : read_siblings-Start t) → c.args.limits.room ≤ 256
 room-small-2 t c = omega arith
 
-row-long-2 : (t : ℕ) (c : goal.read_siblings-Start t) → length c.args.numbers.now ≡ 6 * c.args.limits.room
+row-long-2 : (t : ℕ) (c : read_siblings-Start t) → length c.args.numbers.now ≡ 6 * c.args.limits.room
 row-long-2 t c = omega arith
 
 -- the first family was read
-first_at : (t : ℕ) (c : goal.read_siblings-After-struct_known-2-1 t)
+first_at : (t : ℕ) (c : read_siblings-After-struct_known-2-1 t)
     → let a = c.args in
     FirstRead a.sheet.now a.levels a.limits a.count a.at c.read_family-first.result
 first_at t c =
-    first_read _ _ _ _ _ (level-left-2 t c.before.before.before.before.before.before) (omega arith) (omega arith) _ c.read_family-first.ensures.0 c.if-first-ne0.false
+    first_read _ _ _ _ _ (level-left-2 t (goal.at.read_siblings-overflow_sub-span t c).After-read_family-arg-1) (omega arith) (omega arith) _ c.read_family-first.ensures.0 c.if-first-ne0.false
 
-first-few : (t : ℕ) (c : goal.read_siblings-After-struct_known-2-1 t) → suc (total (first_at t c).kids) ≤ 256
+first-few : (t : ℕ) (c : read_siblings-After-struct_known-2-1 t) → suc (total (first_at t c).kids) ≤ 256
 first-few t c =
-    omega (arith, (first_at t c).room, room-small-2 t c.before.before.before.before.before.before.before.before.before.before)
+    omega (arith, (first_at t c).room, room-small-2 t (goal.at.read_siblings-overflow_sub-span t c).Start)
 
 -- the row with it is as long as it was, and has room for it
-first-row-long : (t : ℕ) (c : goal.read_siblings-After-read_family-first t)
+first-row-long : (t : ℕ) (c : read_siblings-After-read_family-first t)
     → length c.read_family-first.new.numbers ≡ length c.args.numbers.now
 first-row-long t c = search rules
 
-first-row-room : (t : ℕ) (c : goal.read_siblings-After-struct_known-2-1 t)
+first-row-room : (t : ℕ) (c : read_siblings-After-struct_known-2-1 t)
     →
     6 * ((c.read_family-first.result.place - c.args.at) / 22) ≤ length c.read_family-first.new.numbers
 first-row-room t c =
-    omega (arith, span_is _ _ _ _ _ _ (first_at t c), (first_at t c).room, first-row-long t c.before.before.before.before.before, row-long-2 t c.before.before.before.before.before.before.before.before.before.before)
+    omega (arith, span_is _ _ _ _ _ _ (first_at t c), (first_at t c).room, first-row-long t (goal.at.read_siblings-overflow_sub-span t c).After-read_family-first, row-long-2 t (goal.at.read_siblings-overflow_sub-span t c).Start)
 
 pub read_siblings-returns-then-count-eq0 : goal.read_siblings-returns-then-count-eq0
 read_siblings-returns-then-count-eq0 t c = none_on _ _ _ _ _ _ c.if-count-eq0.true

@@ -3,8 +3,9 @@ use Prim.Native.Nat.{◌-◌}
 use native.Mathlib.Omega.{arith}
 use Rattle.trays.proofs.Ranking.{Ranking, Rankable, ranking_start, ranking_end, ranking_asks, ranking_next}
 use Rattle.trays.proofs.tables.fill_ranks.Goals as goal
+use Rattle.trays.proofs.tables.fill_ranks.Goals.{After-slice_known-1}
 
-asks : (c : goal.After-slice_known-1) →
+asks : (c : After-slice_known-1) →
     Rankable c.args.owners.now c.loop-place.counts c.loop-place.ranks c.loop-place.place
 asks c = ranking_asks c.loop-place.invariant c.loop-place-test.true
 

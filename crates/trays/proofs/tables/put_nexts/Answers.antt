@@ -5,9 +5,10 @@ use native.Mathlib.Omega.{arith}
 use Rattle.trays.proofs.Choosing.{chosen_asks, chosen_ok}
 use Rattle.trays.proofs.Firsts.{Firsts, firsts_start, firsts_end, FirstAt, first_at, firsts_small, firsts_room, firsts_next}
 use Rattle.trays.proofs.tables.put_nexts.Goals as goal
+use Rattle.trays.proofs.tables.put_nexts.Goals.{After-struct_known-in-loop-e-1}
 
 -- the element's first byte
-byte : (c : goal.After-struct_known-in-loop-e-1) →let s = c.args in
+byte : (c : After-struct_known-in-loop-e-1) →let s = c.args in
     FirstAt s.layout s.size c.loop-e.e c.file_inverse-byte.result.0
 byte c =
     let asked = c.requires in
