@@ -24,7 +24,7 @@ returns-in_default c =
     (reply_unknown _ c.requires.fact_1 (copied (goal.at.returns-in_default c).After-reply_to-arg-1) c.reply_to.ensures c.enum_told-1.given.1, (omega arith, refl))
 
 pub returns : goal.returns
-returns c =(
+returns c = (
       c.put_line.ensures.0 ∙ reply_told _ c.requires.fact_1 (copied (goal.at.returns c).After-reply_to-arg-1) c.reply_to.ensures _ c.told-1.given.1,
       c.put_line.ensures.1,
     )

@@ -31,6 +31,5 @@ loop-i-preserved c =
 pub returns : goal.returns
 returns c =
     let long : length c.args.layout.family ≡ 256 = search mapped_long in
-    let asked = c.requires in
     let all : c.loop-i.i ≡ c.args.layout.families = omega arith in
-    laid_all c.loop-i.invariant.1 long asked.1 (rw all asked.0)
+    laid_all c.loop-i.invariant.1 long c.requires.fact_2 (rw all c.requires.fact_1)

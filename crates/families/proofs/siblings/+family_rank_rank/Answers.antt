@@ -17,7 +17,7 @@ use Prim.Native.Nat.{ℕ, ◌<◌}
 use Rattle.families.proofs.siblings.+family_rank_rank.Goals as goal
 use Rattle.families.proofs.siblings.+family_rank_rank.Goals.{family_rank-After-rank-part, family_rank-After-shared_slice_known-1, rank-After-family_at-f, rank-After-family_rank-sum, rank-After-shared_slice_known-1, rank-In-loop-left}
 
-abbrev Kids : (t : ℕ) → family-rank-lts.After-shared-slice-known (family-callees t) (family-rank-at t) family-rank.Post → Forest
+abbrev Kids : (t : ℕ) (c : family_rank-After-shared_slice_known-1 t) → Forest
 Kids t c = let a = c.args in forest_at a.levels (family_at a.numbers.now) a.first a.f.children
 
 -- the size of the children for each whole segment, and their rank for the part of one

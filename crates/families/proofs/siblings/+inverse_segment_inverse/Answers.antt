@@ -126,7 +126,7 @@ inverse-returns t c =
     let l = c.loop-left in
     absurd (omega (arith, l.invariant.1, size_none a.levels (family_at a.numbers.now) l.at l.left (omega (arith, c.loop-left-test.false))))
 
-abbrev Kids : (t : ℕ) → segment-inverse-lts.After-shared-slice-known (inverse-below t, inverse.Post) (segment-inverse-at t) segment-inverse.Post → Forest
+abbrev Kids : (t : ℕ) (c : segment_inverse-After-shared_slice_known-1 t) → Forest
 Kids t c = let a = c.args in forest_at a.levels (family_at a.numbers.now) a.first a.f.children
 
 -- what is sought is among what the children select

@@ -30,7 +30,7 @@ pub family_at-f-requires : goal.family_at-f-requires
 family_at-f-requires t c = held_at t c
 
 pub in_segments-requires : goal.in_segments-requires
-in_segments-requires t c = (here-at t c).ranges.stride
+in_segments-requires t c = (here-at t c).fits.stride
 
 pub returns-then-children-eq0 : goal.returns-then-children-eq0
 returns-then-children-eq0 t c =

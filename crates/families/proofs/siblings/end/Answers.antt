@@ -8,7 +8,7 @@ use Rattle.families.specs.Forest.{end_of, Sound}
 use Rattle.families.specs.Decoded.{family_at, forest_at}
 use Rattle.families.proofs.Loops.{Here, here, held_here, end_step, end_none}
 use Rattle.families.proofs.siblings.end.Goals as goal
-use Rattle.families.proofs.siblings.end.Goals.{After-family_at-f, In-loop-left}
+use Rattle.families.proofs.siblings.end.Goals.{After-family_at-f, In-loop-left, else-end-past, then-end-past}
 
 -- the family at hand, which stands in the row
 held_at : (c : In-loop-left) → 6 * c.loop-left.at + 5 < length c.args.numbers.now
@@ -28,7 +28,7 @@ pub family_at-f-requires : goal.family_at-f-requires
 family_at-f-requires c = held_at c
 
 pub end_of-past-requires : goal.end_of-past-requires
-end_of-past-requires c = (here-at c).ranges
+end_of-past-requires c = (here-at c).fits
 
 pub next-at-requires : goal.next-at-requires
 next-at-requires c = omega (arith, held_at (goal.at.next-at-requires c).In-loop-left)
@@ -38,7 +38,7 @@ loop-left-preserved c =
     let H = here-at (goal.at.loop-left-preserved c).After-family_at-f in
     let past = c.end_of-past.ensures in
     let more = end_step _ _ _ _ _ H in
-    rw c.next-at.ensures (H.rest_ok, ⊎_elim (λ w. omega (arith, past, more)) (λ w. omega (arith, past, more)) c.if-end-past.branch)
+    rw c.next-at.ensures (H.rest_ok, elim c.if-end-past.branch [ then-end-past w ↦ omega (arith, past, more) | else-end-past w ↦ omega (arith, past, more) ])
 
 pub returns : goal.returns
 returns c =

@@ -6,15 +6,12 @@ use Rattle.maps.proofs.mapping.selection_of.Goals as goal
 
 pub size-selected-requires : goal.size-selected-requires
 size-selected-requires c =
-    let asked = c.requires in
-    chosen_sound _ _ asked.1.0 asked.1.1 _ asked.0
+    chosen_sound _ _ c.requires.fact_2 c.requires.fact_3 _ c.requires.fact_1
 
 pub overflow_cast-selected : goal.overflow_cast-selected
 overflow_cast-selected c =
-    let asked = c.requires in
-    omega (arith, chosen_small _ _ asked.1.0 asked.1.1 _ asked.0 _ c.size-selected.ensures)
+    omega (arith, chosen_small _ _ c.requires.fact_2 c.requires.fact_3 _ c.requires.fact_1 _ c.size-selected.ensures)
 
 pub returns : goal.returns
 returns c =
-    let asked = c.requires in
-    chosen_is _ _ asked.1.0 asked.1.1 _ asked.0 _ c.size-selected.ensures _
+    chosen_is _ _ c.requires.fact_2 c.requires.fact_3 _ c.requires.fact_1 _ c.size-selected.ensures _

@@ -59,7 +59,7 @@ pub bounds-nexts-last-then-owner-last : goal.bounds-nexts-last-then-owner-last
 bounds-nexts-last-then-owner-last c = c.loop-place.invariant.faces.there
 
 pub offset_bounds-nexts-owner : goal.offset_bounds-nexts-owner
-offset_bounds-nexts-owner c =omega (arith, c.shared_slice_known-in-loop-place-1.given (c.loop-place.place - 1))
+offset_bounds-nexts-owner c = omega (arith, c.shared_slice_known-in-loop-place-1.given (c.loop-place.place - 1))
 
 pub bounds-nexts-owner : goal.bounds-nexts-owner
 bounds-nexts-owner c = (turn (goal.at.bounds-nexts-owner c).Then-owner-last).faces.there

@@ -14,11 +14,8 @@ overflow_add-nexts c =
     omega (arith, ok.short, look_near ok _ c.file_inverse-byte.ensures)
 
 pub fill_strides-requires : goal.fill_strides-requires
-fill_strides-requires c = 
-    let asked = c.requires in
-    record { fact_1 = look_nexts asked.0 _ c.file_inverse-byte.ensures asked.1.fits _ c.fill.ensures; fact_2 = asked.1.room }
+fill_strides-requires c = record { fact_1 = look_nexts c.requires.fact_1 _ c.file_inverse-byte.ensures c.requires.fact_2.fits _ c.fill.ensures; fact_2 = c.requires.fact_2.room }
 
 pub returns : goal.returns
 returns c =
-    let asked = c.requires in
-    look_strides asked.0 _ c.file_inverse-byte.ensures asked.1.fits _ c.fill.ensures c.fill_strides.ensures
+    look_strides c.requires.fact_1 _ c.file_inverse-byte.ensures c.requires.fact_2.fits _ c.fill.ensures c.fill_strides.ensures

@@ -6,15 +6,13 @@ use Rattle.moves.proofs.Bounds.{tables_ask, gather_empty}
 use Rattle.moves.proofs.gathering.gather.Goals as goal
 
 pub returns-then-window : goal.returns-then-window
-returns-then-window c =gather_empty c.args.file.now _ c.requires.fact_3 c.if-window.true
+returns-then-window c = gather_empty c.args.file.now _ c.requires.fact_3 c.if-window.true
 
 pub gather_by_tables-requires : goal.gather_by_tables-requires
 gather_by_tables-requires c =
-    let asked = c.requires in
-    let small = side_smaller asked.0 2048 _ c.fits2.ensures c.if-fits.true in
-    tables_ask small asked.1.0 asked.1.1 c.if-window.false (omega arith)
+    let small = side_smaller c.requires.fact_1 2048 _ c.fits2.ensures c.if-fits.true in
+    tables_ask small c.requires.fact_2 c.requires.fact_3 c.if-window.false (omega arith)
 
 pub gather_by_tables-requires-2 : goal.gather_by_tables-requires-2
 gather_by_tables-requires-2 c =
-    let asked = c.requires in
-    tables_ask asked.0 asked.1.0 asked.1.1 c.if-window.false (omega arith)
+    tables_ask c.requires.fact_1 c.requires.fact_2 c.requires.fact_3 c.if-window.false (omega arith)

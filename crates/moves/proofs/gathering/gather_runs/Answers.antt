@@ -19,21 +19,18 @@ loop-walk-init c = packing_start c.begin-walk.ensures _ _ _ c.requires.fact_1.bu
 
 pub run_here-run-requires : goal.run_here-run-requires
 run_here-run-requires c = 
-    let p = (let asked = c.requires in
-    run_asks asked.0 asked.1 c.loop-walk.invariant.stands c.loop-walk-test.true) in
+    let p = (run_asks c.requires.fact_1 c.requires.fact_2 c.loop-walk.invariant.stands c.loop-walk-test.true) in
     record { fact_1 = p.0; fact_2 = p.1.0; fact_3 = p.1.1 }
 
 pub copy_run-requires : goal.copy_run-requires
 copy_run-requires c =
-    let asked = c.requires in
     let taken = c.loop-walk-test.true in
-    let fits = gather_fits c.args.file.now c.loop-walk.invariant asked.0.buffers.file asked.1 taken _ c.run_here-run.ensures in
+    let fits = gather_fits c.args.file.now c.loop-walk.invariant c.requires.fact_1.buffers.file c.requires.fact_2 taken _ c.run_here-run.ensures in
     (omega (arith, fits.0), omega (arith, fits.1))
 
 pub onward-walk-requires : goal.onward-walk-requires
 onward-walk-requires c =
-    let asked = c.requires in
-    onward_asks asked.0 asked.1 c.loop-walk.invariant.stands c.loop-walk-test.true _ c.run_here-run.ensures
+    onward_asks c.requires.fact_1 c.requires.fact_2 c.loop-walk.invariant.stands c.loop-walk-test.true _ c.run_here-run.ensures
 
 pub loop-walk-smaller : goal.loop-walk-smaller
 loop-walk-smaller c = omega (arith, c.loop-walk-test.true, ap (λ (w : Walk). w.at) c.onward-walk.ensures)
@@ -41,8 +38,7 @@ loop-walk-smaller c = omega (arith, c.loop-walk-test.true, ap (λ (w : Walk). w.
 pub loop-walk-preserved : goal.loop-walk-preserved
 loop-walk-preserved c =
     let copied = c.copy_run.ensures in
-    let asked = c.requires in
-    gather_next _ c.loop-walk.invariant asked.0.buffers.file asked.1 c.loop-walk-test.true _ c.run_here-run.ensures _ copied _ c.onward-walk.ensures
+    gather_next _ c.loop-walk.invariant c.requires.fact_1.buffers.file c.requires.fact_2 c.loop-walk-test.true _ c.run_here-run.ensures _ copied _ c.onward-walk.ensures
 
 pub returns : goal.returns
 returns c =

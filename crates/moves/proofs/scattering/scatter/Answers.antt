@@ -10,11 +10,9 @@ returns-then-window c = scatter_empty _ _ c.requires.fact_3 c.if-window.true
 
 pub scatter_by_tables-requires : goal.scatter_by_tables-requires
 scatter_by_tables-requires c =
-    let asked = c.requires in
-    let small = side_smaller asked.0 2048 _ c.fits2.ensures c.if-fits.true in
-    tables_ask small asked.1.0 asked.1.1 c.if-window.false (omega arith)
+    let small = side_smaller c.requires.fact_1 2048 _ c.fits2.ensures c.if-fits.true in
+    tables_ask small c.requires.fact_2 c.requires.fact_3 c.if-window.false (omega arith)
 
 pub scatter_by_tables-requires-2 : goal.scatter_by_tables-requires-2
 scatter_by_tables-requires-2 c =
-    let asked = c.requires in
-    tables_ask asked.0 asked.1.0 asked.1.1 c.if-window.false (omega arith)
+    tables_ask c.requires.fact_1 c.requires.fact_2 c.requires.fact_3 c.if-window.false (omega arith)

@@ -20,8 +20,7 @@ loop-walk-init c =
 
 pub run_here-run-requires : goal.run_here-run-requires
 run_here-run-requires c = 
-    let p = (let asked = c.requires in
-    run_asks asked.0 asked.1 c.loop-walk.invariant.stands c.loop-walk-test.true) in
+    let p = (run_asks c.requires.fact_1 c.requires.fact_2 c.loop-walk.invariant.stands c.loop-walk-test.true) in
     record { fact_1 = p.0; fact_2 = p.1.0; fact_3 = p.1.1 }
 
 pub copy_run-requires : goal.copy_run-requires
@@ -32,8 +31,7 @@ copy_run-requires c =
 
 pub onward-walk-requires : goal.onward-walk-requires
 onward-walk-requires c =
-    let asked = c.requires in
-    onward_asks asked.0 asked.1 c.loop-walk.invariant.stands c.loop-walk-test.true _ c.run_here-run.ensures
+    onward_asks c.requires.fact_1 c.requires.fact_2 c.loop-walk.invariant.stands c.loop-walk-test.true _ c.run_here-run.ensures
 
 pub loop-walk-smaller : goal.loop-walk-smaller
 loop-walk-smaller c = omega (arith, c.loop-walk-test.true, ap (λ (w : Walk). w.at) c.onward-walk.ensures)

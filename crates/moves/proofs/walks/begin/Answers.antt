@@ -6,9 +6,7 @@ use Rattle.moves.proofs.Beginnings.{rank_near, byte_after, begun}
 use Rattle.moves.proofs.walks.begin.Goals as goal
 
 pub file_inverse-byte-requires : goal.file_inverse-byte-requires
-file_inverse-byte-requires c = 
-    let asked = c.requires in
-    record { fact_1 = asked.0; fact_2 = rank_near _ _ _ c.file_rank-rank.ensures asked.1.1 }
+file_inverse-byte-requires c = record { fact_1 = c.requires.fact_1; fact_2 = rank_near _ _ _ c.file_rank-rank.ensures c.requires.fact_3 }
 
 pub overflow_sub-past : goal.overflow_sub-past
 overflow_sub-past c =

@@ -12,7 +12,7 @@ use Rattle.parts.proofs.Piecing.{piece_asks, step_just}
 use Rattle.parts.proofs.Renewing.{Renewing, renewing_start, renewing_end, AtPiece, source_asked, copy_asked, beyond_asked, far_least, far_over}
 use Rattle.parts.proofs.Renewing.{piece_forward, piece_copied, piece_passed}
 use Rattle.parts.proofs.filling.fill_part.Goals as goal
-use Rattle.parts.proofs.filling.fill_part.Goals.{After-piece_at-piece, Joined-then-only-eq0}
+use Rattle.parts.proofs.filling.fill_part.Goals.{After-piece_at-piece, Joined-then-only-eq0, else-only-eq0, then-only-eq0}
 
 -- what is known at a piece
 here : (c : After-piece_at-piece) →
@@ -21,13 +21,12 @@ here : (c : After-piece_at-piece) →
     args.cycle args.owners.now args.keeps.now args.skips.now args.ranks.now args.shares.now args.only
     args.tray.now args.part.now c.loop-walk.part c.loop-walk.walk c.run_here-run.result c.piece_at-piece.result
 here c =
-    let asked = c.requires in
     record {
-      strides = asked.1.0;
-      sources = asked.1.1;
-      long = asked.0.buffers.file;
+      strides = c.requires.fact_2;
+      sources = c.requires.fact_3;
+      long = c.requires.fact_1.buffers.file;
       renewing = c.loop-walk.invariant;
-      inside = omega (arith, c.loop-walk-test.true, asked.0.buffers.file);
+      inside = omega (arith, c.loop-walk-test.true, c.requires.fact_1.buffers.file);
       clipped = c.run_here-run.ensures;
       is = c.piece_at-piece.ensures;
     }
@@ -36,7 +35,7 @@ here c =
 chosen : (c : Joined-then-only-eq0) →
     let only = c.args.only in
     (only ≡ 0) ⊎ (only ≡ c.piece_at-piece.result.owner)
-chosen c = ⊎_elim (λ v. inl v.taken) (λ v. inr (eqb-true _ _ v.2.taken)) c.if-only-eq0.branch
+chosen c = elim c.if-only-eq0.branch [ then-only-eq0 v ↦ inl v.taken | else-only-eq0 v ↦ inr (eqb-true _ _ v.2.taken) ]
 
 pub begin-walk-requires : goal.begin-walk-requires
 begin-walk-requires c = 
@@ -49,14 +48,12 @@ loop-walk-init c =
 
 pub run_here-run-requires : goal.run_here-run-requires
 run_here-run-requires c = 
-    let p = (let asked = c.requires in
-    run_asks asked.0 asked.1.0 c.loop-walk.invariant.packing.stands c.loop-walk-test.true) in
+    let p = (run_asks c.requires.fact_1 c.requires.fact_2 c.loop-walk.invariant.packing.stands c.loop-walk-test.true) in
     record { fact_1 = p.0; fact_2 = p.1.0; fact_3 = p.1.1 }
 
 pub piece_at-piece-requires : goal.piece_at-piece-requires
 piece_at-piece-requires c =
-    let asked = c.requires in
-    piece_asks asked.1.1 (omega (arith, c.loop-walk-test.true, asked.0.buffers.file))
+    piece_asks c.requires.fact_3 (omega (arith, c.loop-walk-test.true, c.requires.fact_1.buffers.file))
 
 pub source_of-source-requires : goal.source_of-source-requires
 source_of-source-requires c = source_asked (here (goal.at.source_of-source-requires c).After-piece_at-piece)
@@ -71,8 +68,7 @@ beyond-step-requires c = beyond_asked (here (goal.at.beyond-step-requires c).Aft
 
 pub further-walk-requires : goal.further-walk-requires
 further-walk-requires c = 
-    let p = (let asked = c.requires in
-    further_asks asked.0 asked.1.0 c.loop-walk.invariant.packing.stands c.loop-walk-test.true _ c.run_here-run.ensures) in
+    let p = (further_asks c.requires.fact_1 c.requires.fact_2 c.loop-walk.invariant.packing.stands c.loop-walk-test.true _ c.run_here-run.ensures) in
     record { fact_1 = p.0; fact_2 = p.1 }
 
 pub loop-walk-smaller : goal.loop-walk-smaller

@@ -8,6 +8,7 @@ use borrow.Author.Rules.{rules}
 use Rattle.parts.specs.Pieces.{place_in}
 use Rattle.parts.proofs.Piecing.{place_held}
 use Rattle.parts.proofs.pieces.piece_at.Goals as goal
+use Rattle.parts.proofs.pieces.piece_at.Goals.{else-run-keep, then-run-keep}
 
 pub offset_bounds-keeps-place : goal.offset_bounds-keeps-place
 offset_bounds-keeps-place c =
@@ -36,5 +37,5 @@ returns c =
     let keep = c.wide.ensures in
     let args = c.args in
     let len : c.if-run-keep.t35 ≡ min args.run (get_or args.keeps.now (place_in args.cycle (args.window.start.0 + args.at)) 0 + 1) =
-    ⊎_elim (λ w. omega arith) (λ w. omega arith) c.if-run-keep.branch in
+    elim c.if-run-keep.branch [ then-run-keep w ↦ omega arith | else-run-keep w ↦ omega arith ] in
     rw len refl

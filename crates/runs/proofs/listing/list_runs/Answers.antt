@@ -17,8 +17,7 @@ pass-at-requires c = c.requires
 
 pub loop-at-init : goal.loop-at-init
 loop-at-init c =
-    let asked = c.requires in
-    (c.pass-at.ensures.walks, handing_first _ _ _ _ _ asked.window c.pass-at.ensures.up_to asked.near _)
+    (c.pass-at.ensures.walks, handing_first _ _ _ _ _ c.requires.window c.pass-at.ensures.up_to c.requires.near _)
 
 pub pass-past-requires : goal.pass-past-requires
 pass-past-requires c =
@@ -52,5 +51,4 @@ loop-at-preserved c =
 
 pub returns : goal.returns
 returns c =
-    let asked = c.requires in
-    handing_all _ _ _ _ _ asked.window c.pass-at.ensures.up_to c.loop-at.invariant.1 c.loop-at-test.false
+    handing_all _ _ _ _ _ c.requires.window c.pass-at.ensures.up_to c.loop-at.invariant.1 c.loop-at-test.false

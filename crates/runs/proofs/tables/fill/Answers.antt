@@ -9,5 +9,4 @@ paint-requires c = fill_asks c.requires.fact_1 c.requires.fact_2
 
 pub returns : goal.returns
 returns c =
-    let asked = c.requires in
-    fill_marks asked.0 asked.1.0 _ _ refl asked.1.1 c.paint.ensures
+    fill_marks c.requires.fact_1 c.requires.fact_2 _ _ refl c.requires.fact_3 c.paint.ensures

@@ -47,7 +47,7 @@ decoded-layout-requires c =
     record { fact_1 = search rules; fact_2 = row_used _ S.most S.room _ _ (got-at (goal.at.decoded-layout-requires c).Else-all-ne0).progress (written_at (goal.at.decoded-layout-requires c).Else-all-ne0) }
 
 pub overflow_cast-all : goal.overflow_cast-all
-overflow_cast-all c =omega (arith, end_is _ _ (got-at (goal.at.overflow_cast-all c).Else-all-ne0).progress, ends_most _ (sheet-at (goal.at.overflow_cast-all c).Else-all-ne0).each)
+overflow_cast-all c = omega (arith, end_is _ _ (got-at (goal.at.overflow_cast-all c).Else-all-ne0).progress, ends_most _ (sheet-at (goal.at.overflow_cast-all c).Else-all-ne0).each)
 
 pub judge-requires : goal.judge-requires
 judge-requires c = 

@@ -5,9 +5,10 @@ use Prim.Native.Nat.{◌-◌}
 use native.Mathlib.Omega.{arith}
 use Rattle.sheets.proofs.Scanning.{Scan, scan_start, scan_next, scan_found, scan_all}
 use Rattle.sheets.proofs.pattern.scan.Goals as goal
+use Rattle.sheets.proofs.pattern.scan.Goals.{else-table-end, then-table-end}
 
 pub loop-i-init : goal.loop-i-init
-loop-i-init c = ⊎_elim (λ w. scan_start _ _ _ (omega arith) (omega arith) (omega arith)) (λ w. scan_start _ _ _ (omega arith) (omega arith) (omega arith)) c.if-table-end.branch
+loop-i-init c = elim c.if-table-end.branch [ then-table-end w ↦ scan_start _ _ _ (omega arith) (omega arith) (omega arith) | else-table-end w ↦ scan_start _ _ _ (omega arith) (omega arith) (omega arith) ]
 
 pub returns-then-v-eq0 : goal.returns-then-v-eq0
 returns-then-v-eq0 c = scan_found c.loop-i.invariant (omega arith) (rw c.if-v-eq0.true refl)

@@ -27,7 +27,7 @@ returns-then-le16_at-long c =
     head_length _ _ _ (omega arith) (kind_is (goal.at.returns-then-le16_at-long c).Else-kind-due) (λ e. c.if-le16_at-long.true (c.le16_at.ensures.0 ∙ e ∙ sym (due-length (goal.at.returns-then-le16_at-long c).Else-kind-due)))
 
 pub returns-then-sheet-at : goal.returns-then-sheet-at
-returns-then-sheet-at c =head_cut _ _ _ (omega arith) (kind_is (goal.at.returns-then-sheet-at c).Else-kind-due) (length_is (goal.at.returns-then-sheet-at c).Else-le16_at-long) (omega (arith, due-length (goal.at.returns-then-sheet-at c).Else-kind-due))
+returns-then-sheet-at c = head_cut _ _ _ (omega arith) (kind_is (goal.at.returns-then-sheet-at c).Else-kind-due) (length_is (goal.at.returns-then-sheet-at c).Else-le16_at-long) (omega (arith, due-length (goal.at.returns-then-sheet-at c).Else-kind-due))
 
 pub returns : goal.returns
-returns c =head_good _ _ _ (omega arith) (kind_is (goal.at.returns c).Else-kind-due) (length_is (goal.at.returns c).Else-le16_at-long) (omega (arith, due-length (goal.at.returns c).Else-kind-due))
+returns c = head_good _ _ _ (omega arith) (kind_is (goal.at.returns c).Else-kind-due) (length_is (goal.at.returns c).Else-le16_at-long) (omega (arith, due-length (goal.at.returns c).Else-kind-due))

@@ -9,48 +9,39 @@ use Rattle.trays.proofs.filling.fill_parts.Goals as goal
 
 pub loop-j-init : goal.loop-j-init
 loop-j-init c =
-    let asked = c.requires in
-    parted_none (targets_once asked.0) asked.1.1.1.long.second asked.1.1.0.ordered
+    parted_none (targets_once c.requires.fact_1) c.requires.fact_4.long.second c.requires.fact_3.ordered
 
 pub selection_of-s-requires : goal.selection_of-s-requires
-selection_of-s-requires c = 
-    let asked = c.requires in
-    record { fact_1 = asked.0.laid; fact_2 = asked.0.pattern.ok; fact_3 = parting_element asked.0 c.loop-j.invariant c.loop-j-test.true asked.1.1.0.most }
+selection_of-s-requires c = record { fact_1 = c.requires.fact_1.laid; fact_2 = c.requires.fact_1.pattern.ok; fact_3 = parting_element c.requires.fact_1 c.loop-j.invariant c.loop-j-test.true c.requires.fact_3.most }
 
 pub share_at-part-requires : goal.share_at-part-requires
 share_at-part-requires c =
-    let asked = c.requires in
-    parting_held asked.0 c.loop-j.invariant c.loop-j-test.true asked.1.1.0.most
+    parting_held c.requires.fact_1 c.loop-j.invariant c.loop-j-test.true c.requires.fact_3.most
 
 pub overflow_add-to : goal.overflow_add-to
 overflow_add-to c =
-    let asked = c.requires in
-    let fits = parting_fits asked.0 c.loop-j.invariant c.loop-j-test.true asked.1.1.0.most _ c.share_at-part.ensures in
-    omega (arith, fits, asked.0.window.near)
+    let fits = parting_fits c.requires.fact_1 c.loop-j.invariant c.loop-j-test.true c.requires.fact_3.most _ c.share_at-part.ensures in
+    omega (arith, fits, c.requires.fact_1.window.near)
 
 pub slice_bounds-fill_part-end : goal.slice_bounds-fill_part-end
 slice_bounds-fill_part-end c =
-    let asked = c.requires in
-    let fits = parting_fits asked.0 c.loop-j.invariant c.loop-j-test.true asked.1.1.0.most _ c.share_at-part.ensures in
-    omega (arith, fits, parted_long (targets_once asked.0) c.loop-j.invariant)
+    let fits = parting_fits c.requires.fact_1 c.loop-j.invariant c.loop-j-test.true c.requires.fact_3.most _ c.share_at-part.ensures in
+    omega (arith, fits, parted_long (targets_once c.requires.fact_1) c.loop-j.invariant)
 
 pub fill_part-requires : goal.fill_part-requires
 fill_part-requires c = 
-    let asked = c.requires in
     let A =
-    parting_asks asked.0 c.loop-j.invariant c.loop-j-test.true asked.1.1.0.most _ c.share_at-part.ensures _ c.selection_of-s.ensures
-    asked.1.1.1 in
-    record { fact_1 = A.0; fact_2 = A.1; fact_3 = asked.1.0 }
+    parting_asks c.requires.fact_1 c.loop-j.invariant c.loop-j-test.true c.requires.fact_3.most _ c.share_at-part.ensures _ c.selection_of-s.ensures
+    c.requires.fact_4 in
+    record { fact_1 = A.0; fact_2 = A.1; fact_3 = c.requires.fact_2 }
 
 pub overflow_add-j : goal.overflow_add-j
 overflow_add-j c =
-    let asked = c.requires in
-    omega (arith, c.loop-j-test.true, asked.1.1.0.most, asked.0.pattern.ok.room)
+    omega (arith, c.loop-j-test.true, c.requires.fact_3.most, c.requires.fact_1.pattern.ok.room)
 
 pub loop-j-preserved : goal.loop-j-preserved
 loop-j-preserved c =
-    let asked = c.requires in
-    parting_next asked.0 c.loop-j.invariant c.loop-j-test.true asked.1.1.0.most _ c.share_at-part.ensures _ c.selection_of-s.ensures
+    parting_next c.requires.fact_1 c.loop-j.invariant c.loop-j-test.true c.requires.fact_3.most _ c.share_at-part.ensures _ c.selection_of-s.ensures
     c.fill_part.new.part c.fill_part.ensures
 
 pub returns : goal.returns

@@ -4,9 +4,7 @@ use borrow.Author.Rules.{rules}
 use Rattle.trays.proofs.moving.move_tray.Goals as goal
 
 pub move_chosen-requires : goal.move_chosen-requires
-move_chosen-requires c = 
-    let asked = c.requires in
-    record { fact_1 = asked.0; fact_2 = asked.1.0; fact_3 = every_chosen _ _ _ c.every_pair-chosen.ensures; fact_4 = asked.1.1 }
+move_chosen-requires c = record { fact_1 = c.requires.fact_1; fact_2 = c.requires.fact_2; fact_3 = every_chosen _ _ _ c.every_pair-chosen.ensures; fact_4 = c.requires.fact_3 }
 
 pub returns : goal.returns
-returns c =moved_whole c.requires.fact_1 c.requires.fact_2 c.args.tray1.now c.args.tray2.now _ _ c.move_chosen.ensures c.every_pair-chosen.ensures
+returns c = moved_whole c.requires.fact_1 c.requires.fact_2 c.args.tray1.now c.args.tray2.now _ _ c.move_chosen.ensures c.every_pair-chosen.ensures

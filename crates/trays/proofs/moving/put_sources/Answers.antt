@@ -5,11 +5,9 @@ use Rattle.trays.proofs.moving.put_sources.Goals as goal
 
 pub fill_ranks-requires : goal.fill_ranks-requires
 fill_ranks-requires c =
-    let asked = c.requires in
-    counted_ask asked.0.starts c.fill_tables.ensures asked.1.1.0
+    counted_ask c.requires.fact_1.starts c.fill_tables.ensures c.requires.fact_3
 
 pub returns : goal.returns
 returns c = 
-    let asked = c.requires in
     let T = c.fill_tables.ensures in
-    record { fact_1 = sources_noted asked.0.starts T c.fill_ranks.ensures c.share_out.ensures; fact_2 = T.is }
+    record { fact_1 = sources_noted c.requires.fact_1.starts T c.fill_ranks.ensures c.share_out.ensures; fact_2 = T.is }

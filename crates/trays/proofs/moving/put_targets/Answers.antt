@@ -5,5 +5,4 @@ use Rattle.trays.proofs.moving.put_targets.Goals as goal
 
 pub returns : goal.returns
 returns c =
-    let asked = c.requires in
-    targets_noted asked.0.starts c.fill_tables.ensures asked.0.laid c.share_out.ensures
+    targets_noted c.requires.fact_1.starts c.fill_tables.ensures c.requires.fact_1.laid c.share_out.ensures

@@ -14,14 +14,10 @@ loop-e-init c =
     allotted_none _ _ _ _ _ _ (omega (arith, count, c.requires.fact_2.ok.room, c.requires.fact_5))
 
 pub selection_of-s-requires : goal.selection_of-s-requires
-selection_of-s-requires c = 
-    let asked = c.requires in
-    record { fact_1 = asked.0; fact_2 = asked.1.0.ok; fact_3 = c.loop-e-test.true }
+selection_of-s-requires c = record { fact_1 = c.requires.fact_1; fact_2 = c.requires.fact_2.ok; fact_3 = c.loop-e-test.true }
 
 pub share_of-share-requires : goal.share_of-share-requires
-share_of-share-requires c = 
-    let asked = c.requires in
-    record { fact_1 = chosen_ok asked.1.0 asked.0 c.loop-e-test.true c.selection_of-s.ensures; fact_2 = asked.1.1.0 }
+share_of-share-requires c = record { fact_1 = chosen_ok c.requires.fact_2 c.requires.fact_1 c.loop-e-test.true c.selection_of-s.ensures; fact_2 = c.requires.fact_3 }
 
 pub overflow_mul-from : goal.overflow_mul-from
 overflow_mul-from c = omega (arith, c.requires.fact_2.ok.room)
@@ -34,21 +30,18 @@ offset_bounds-shares-from c = omega (arith, c.requires.fact_2.ok.room)
 
 pub slice_bounds-put_share-end : goal.slice_bounds-put_share-end
 slice_bounds-put_share-end c =
-    let asked = c.requires in
-    omega (arith, allotting_held asked.1.0 asked.1.1.0 c.loop-e.invariant c.loop-e-test.true 4 (omega arith))
+    omega (arith, allotting_held c.requires.fact_2 c.requires.fact_3 c.loop-e.invariant c.loop-e-test.true 4 (omega arith))
 
 pub put_share-requires : goal.put_share-requires
 put_share-requires c =
-    let asked = c.requires in
     let e = c.loop-e.e in
-    allotting_part asked.1.0 asked.1.1.0 c.loop-e.invariant c.loop-e-test.true (4 * e + 4 - 4 * e) (omega arith)
+    allotting_part c.requires.fact_2 c.requires.fact_3 c.loop-e.invariant c.loop-e-test.true (4 * e + 4 - 4 * e) (omega arith)
 
 pub overflow_add-at : goal.overflow_add-at
 overflow_add-at c =
-    let asked = c.requires in
     let fits =
-    allotting_fits asked.1.0 asked.1.1.0 c.loop-e.invariant c.loop-e-test.true asked.0 _ c.selection_of-s.ensures
-    _ c.share_of-share.ensures asked.1.1.1.0 in
+    allotting_fits c.requires.fact_2 c.requires.fact_3 c.loop-e.invariant c.loop-e-test.true c.requires.fact_1 _ c.selection_of-s.ensures
+    _ c.share_of-share.ensures c.requires.fact_4 in
     omega (arith, fits)
 
 pub overflow_add-e : goal.overflow_add-e
@@ -56,9 +49,8 @@ overflow_add-e c = omega (arith, c.requires.fact_2.ok.room)
 
 pub loop-e-preserved : goal.loop-e-preserved
 loop-e-preserved c =
-    let asked = c.requires in
     let e = c.loop-e.e in
-    allotting_next asked.1.0 asked.1.1.0 c.loop-e.invariant c.loop-e-test.true asked.0 _ c.selection_of-s.ensures
+    allotting_next c.requires.fact_2 c.requires.fact_3 c.loop-e.invariant c.loop-e-test.true c.requires.fact_1 _ c.selection_of-s.ensures
     _ c.share_of-share.ensures (4 * e + 4 - 4 * e) (omega arith) _ c.put_share.ensures
 
 pub returns : goal.returns

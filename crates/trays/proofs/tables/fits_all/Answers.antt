@@ -14,13 +14,12 @@ loop-e-init c = rooming_start _ _ _
 
 pub selection_of-s-requires : goal.selection_of-s-requires
 selection_of-s-requires c = 
-    let p = (let asked = c.requires in chosen_asks asked.1 asked.0 c.loop-e-test.true) in
+    let p = (chosen_asks c.requires.fact_2 c.requires.fact_1 c.loop-e-test.true) in
     record { fact_1 = p.0; fact_2 = p.1.0; fact_3 = p.1.1 }
 
 pub fits-requires : goal.fits-requires
 fits-requires c =
-    let asked = c.requires in
-    chosen_ok asked.1 asked.0 c.loop-e-test.true c.selection_of-s.ensures
+    chosen_ok c.requires.fact_2 c.requires.fact_1 c.loop-e-test.true c.selection_of-s.ensures
 
 pub returns-then-not-fits : goal.returns-then-not-fits
 returns-then-not-fits c = λ q. absurd (true≢false (sym q))
@@ -30,8 +29,7 @@ loop-e-smaller c = omega (arith, c.loop-e-test.true)
 
 pub loop-e-preserved : goal.loop-e-preserved
 loop-e-preserved c =
-    let asked = c.requires in
-    rooming_next asked.1 c.loop-e.invariant c.loop-e-test.true _ c.selection_of-s.ensures _ asked.0
+    rooming_next c.requires.fact_2 c.loop-e.invariant c.loop-e-test.true _ c.selection_of-s.ensures _ c.requires.fact_1
     _ c.fits2.ensures (not-false _ c.if-not-fits.false)
 
 pub returns : goal.returns

@@ -11,22 +11,18 @@ use Rattle.trays.proofs.tables.put_nexts.Goals.{After-struct_known-in-loop-e-1}
 byte : (c : After-struct_known-in-loop-e-1) →let s = c.args in
     FirstAt s.layout s.size c.loop-e.e c.file_inverse-byte.result.0
 byte c =
-    let asked = c.requires in
-    first_at _ asked.1.0 asked.0 c.selection_of-s.ensures c.file_inverse-byte.ensures
+    first_at _ c.requires.fact_2 c.requires.fact_1 c.selection_of-s.ensures c.file_inverse-byte.ensures
 
 pub loop-e-init : goal.loop-e-init
 loop-e-init c = firsts_start _ _ _ c.requires.fact_3
 
 pub selection_of-s-requires : goal.selection_of-s-requires
 selection_of-s-requires c = 
-    let p = (let asked = c.requires in
-    chosen_asks asked.1.0 asked.0 c.loop-e-test.true) in
+    let p = (chosen_asks c.requires.fact_2 c.requires.fact_1 c.loop-e-test.true) in
     record { fact_1 = p.0; fact_2 = p.1.0; fact_3 = p.1.1 }
 
 pub file_inverse-byte-requires : goal.file_inverse-byte-requires
-file_inverse-byte-requires c = 
-    let asked = c.requires in
-    record { fact_1 = chosen_ok asked.1.0 asked.0 c.loop-e-test.true c.selection_of-s.ensures; fact_2 = omega arith }
+file_inverse-byte-requires c = record { fact_1 = chosen_ok c.requires.fact_2 c.requires.fact_1 c.loop-e-test.true c.selection_of-s.ensures; fact_2 = omega arith }
 
 pub overflow_sub-nexts : goal.overflow_sub-nexts
 overflow_sub-nexts c = (byte c).after
