@@ -1,0 +1,122 @@
+-- From what was read to the answer: the arrays are the layout of the trees, and its pattern is judged. Assumes nothing.
+use mathlib.Core.Path.{◌≡◌, refl, sym, ap, ◌∙◌}
+use mathlib.Core.List.{List, [], ◌∷◌, ◌++◌}
+use Prim.Native.Nat.{ℕ, suc, ◌+◌, ◌-◌, ◌≤◌, ◌<◌}
+use native.Mathlib.Nat.{zero-add}
+use native.Mathlib.Omega.{arith}
+use lib.ListN.{length, replicate, length-append, length-replicate}
+use lib.Seq.{sets, sets-eq}
+use borrow.Author.Tests.{lt-ltb, le-ltb}
+use Rattle.counting.specs.Gather.{tabulated}
+use Rattle.families.specs.declared.Layout.{Layout}
+use Rattle.families.specs.Forest.{Forest, nil, node, end_of}
+use Rattle.families.specs.Decoded.{no_element, no_family, InUse, empty_row, family_at, row_of, trees_of, LayoutOk}
+use Rattle.families.specs.Flat.{width, totals, flats, elements_at, layout_of, All}
+use Rattle.families.proofs.Forests.{wf_ended, end_le}
+use Rattle.families.proofs.Rows.{row_at, row_back, drop_replicate, row_padded}
+use Rattle.families.proofs.Flats.{ElementOk, length_flats, length_elements, trees_back, layout_used, layout_ok}
+use Rattle.sheets.specs.declared.elements.Progress.{Progress}
+use Rattle.sheets.specs.declared.pattern.Uneven.{Uneven}
+use Rattle.sheets.specs.Refusals.{got, refused, HOLE_OR_OVERLAP, NO_FLAG}
+use Rattle.sheets.specs.Bytes.{le32}
+use Rattle.sheets.specs.Encode.{ElementRules}
+use Rattle.sheets.specs.Sheet.{elements_of, refusal, accepted, judged, answer, read_sheet}
+use Rattle.sheets.specs.Pattern.{sizes, first_uneven}
+use Rattle.sheets.specs.Uneven.{flag_at, uneven_of}
+use Rattle.sheets.specs.Steps.{ends, start, Progressed, WrittenAll, layout_from, judged_layout}
+use Rattle.sheets.proofs.Tiling.{each_shallow}
+
+-- ---- unused room is blank
+padded : {A : Type 0} (n : ℕ) (a : A) (vs : List A) (k : ℕ) → length vs ≡ k → k ≤ n → sets (replicate n a) 0 vs ≡ vs ++ replicate (n - k) a
+padded {A = A} n a vs k e h =
+    sets-eq vs (replicate n a) 0 (omega (arith, length-replicate n a))
+    ∙ ap (λ (l : List A). vs ++ l) (drop_replicate (0 + length vs) n a (omega arith) ∙ ap (λ (j : ℕ). replicate j a) {x = n - (0 + length vs)} {y = n - k} (omega arith))
+
+-- ---- THE LAYOUT: what was read, decoded, is the layout of its trees
+module _ (Fs : List Forest) (few : length Fs ≤ 16) (room : totals Fs ≤ 256) where
+  pub row_is : (d : ℕ) (row : List ℕ) → WrittenAll (got Fs) empty_row row → row ≡ row_of (layout_of d Fs).family
+  unfolding WrittenAll layout_of
+  row_is d row w = row_padded 256 (totals Fs) (flats Fs) row room w
+
+  families_back : tabulated 0 256 (family_at (row_of (flats Fs ++ replicate (256 - totals Fs) no_family))) ≡ flats Fs ++ replicate (256 - totals Fs) no_family
+  families_back =
+      let all = flats Fs ++ replicate (256 - totals Fs) no_family in
+      let long : length all ≡ 256 = length-append (flats Fs) (replicate (256 - totals Fs) no_family) ∙ omega (arith, length_flats Fs, length-replicate (256 - totals Fs) no_family) in
+      ap (λ (n : ℕ). tabulated 0 n (family_at (row_of all))) (sym long) ∙ row_back all
+
+  -- behind its families the row holds none
+  pub row_used : (p : Progress) (row : List ℕ) → Progressed (got Fs) start p → WrittenAll (got Fs) empty_row row → InUse p.families (family_at row)
+  unfolding Progressed start
+  row_used p row e w =
+      let U = layout_used 0 Fs room in
+      rw (e, zero-add (totals Fs), row_is 0 row w) (record { most = U.most; none = λ i h. row_at (layout_of 0 Fs).family i ∙ U.none i h })
+
+  pub layout_is : (d : ℕ) (p : Progress) (row : List ℕ) → Progressed (got Fs) start p → WrittenAll (got Fs) empty_row row → layout_from d p row ≡ layout_of d Fs
+  unfolding Progressed start layout_from layout_of WrittenAll
+  layout_is d p row e w =
+      rw (e, row_padded 256 (totals Fs) (flats Fs) row room w)
+      (λ i. record {
+        displacement = d;
+        elements = zero-add (length Fs) i;
+        families = zero-add (totals Fs) i;
+        element = padded 16 no_element (elements_at 0 Fs) (length Fs) (length_elements 0 Fs) few i;
+        family = families_back i;
+      })
+
+-- ---- where the elements end: the rules hold with that bound
+pub end_is : (Fs : List Forest) (p : Progress) → Progressed (got Fs) start p → p.end ≡ ends Fs
+unfolding Progressed start
+end_is Fs p e = ap (λ (q : Progress). q.end) e ∙ omega arith
+
+each_ended : (Fs : List Forest) (b : ℕ) → All ElementRules Fs → ends Fs ≤ suc b → All (ElementOk b) Fs
+unfolding All ends
+each_ended [] b e h = tt
+each_ended (F ∷ Fs) b e h = ((e.0.some, wf_ended F 0 65535 b e.0.families (omega arith)), each_ended Fs b e.1 (omega arith))
+
+end_some : (F : Forest) → 1 ≤ width F → 1 ≤ end_of F
+unfolding width end_of
+end_some nil h = absurd (omega arith)
+end_some (node l r s n kids rest) h = omega arith
+
+pub ends_some : (Fs : List Forest) → All ElementRules Fs → 1 ≤ length Fs → 1 ≤ ends Fs
+unfolding All ends
+ends_some [] e h = absurd (omega arith)
+ends_some (F ∷ Fs) e h = omega (arith, end_some F e.0.some)
+
+pub ends_most : (Fs : List Forest) → All ElementRules Fs → ends Fs ≤ 65536
+unfolding All ends
+ends_most [] e = omega arith
+ends_most (F ∷ Fs) e = omega (arith, end_le 0 65535 F e.0.families, ends_most Fs e.1)
+
+pub ok_ended : (d : ℕ) (Fs : List Forest) (end : ℕ) → end ≡ ends Fs → All ElementRules Fs → 1 ≤ length Fs → length Fs ≤ 16 → totals Fs ≤ 256
+    → LayoutOk 4 (end - 1) (layout_of d Fs)
+ok_ended d Fs end q e some few room =
+    let h = ends_some Fs e some in
+    layout_ok 4 (end - 1) d Fs (each_shallow Fs e) (each_ended Fs (end - 1) e (omega arith)) few room
+
+-- ---- NUMBER 11
+pub judged_is : (d : ℕ) (Fs : List Forest) → All ElementRules Fs → judged_layout (layout_of d Fs) ≡ judged d Fs
+unfolding judged_layout judged accepted
+judged_is d Fs e = rw (trees_back 4 d Fs (each_shallow Fs e)) refl
+
+module _ (t : Layout) (u : Uneven) (size : ℕ) (e : u ≡ uneven_of (trees_of 4 t)) (k : size ≡ sizes (trees_of 4 t)) where
+  pub judged_uneven : u.place < size → refusal HOLE_OR_OVERLAP u.place u.flag ≡ judged_layout t
+  unfolding judged_layout uneven_of flag_at
+  judged_uneven h =
+      let uneven = lt-ltb (first_uneven (trees_of 4 t)) (sizes (trees_of 4 t)) (omega (arith, k, ap (λ (v : Uneven). v.place) e)) in
+      rw (e, uneven) refl
+
+  pub judged_even : size ≤ u.place → record { number = 0; place = 0; flag = NO_FLAG; size = size; layout = t } ≡ judged_layout t
+  unfolding judged_layout uneven_of flag_at
+  judged_even h =
+      let even = le-ltb (first_uneven (trees_of 4 t)) (sizes (trees_of 4 t)) (omega (arith, k, ap (λ (v : Uneven). v.place) e)) in
+      rw (even, k) refl
+
+-- ---- THE ANSWER
+pub answer_refused : (xs : List ℕ) (number place : ℕ) → elements_of xs ≡ refused number place → read_sheet xs ≡ refusal number place NO_FLAG
+unfolding read_sheet answer
+answer_refused xs number place e = rw e
+
+pub answer_got : (xs : List ℕ) (Fs : List Forest) → elements_of xs ≡ got Fs → read_sheet xs ≡ judged (le32 xs 4) Fs
+unfolding read_sheet answer
+answer_got xs Fs e = rw e
