@@ -92,7 +92,7 @@ unfolding elements_from
 elements_numbered xs room zero at = got_numbered _
 elements_numbered xs room (suc k) at =
     unless_numbered _ _ _ (fault_listed 4 _ xs _ at)
-    (then_numbered _ _ (forest_numbered xs 4 _ _ _) (λ F. then_numbered _ _ (elements_numbered xs _ k _) (λ Fs. got_numbered _)))
+    (then_numbered _ _ (forest_numbered xs 4 _ _ _) (λ F. then_numbered _ _ (elements_numbered xs (room - total F) k _) (λ Fs. got_numbered _)))
 
 pub sheet_numbered : (xs : List ℕ) → Numbered (elements_of xs)
 unfolding elements_of listed one_of

@@ -165,7 +165,7 @@ elements_shape xs room (suc k) at Fs there e =
     let E = element_read xs room k at Fs e in
     let taken = element_taken 4 (top room) xs at E.fine in
     let S = forest_shape xs 4 (top room) _ (at + 6) E.families (λ h. absurd (omega arith)) (element_inside xs at taken.0) E.families_read in
-    rw E.is (elements_shape_one xs room k at E.families E.others taken.1 S (elements_shape xs _ k _ E.others (omega (arith, S.inside)) E.others_read))
+    rw E.is (elements_shape_one xs room k at E.families E.others taken.1 S (elements_shape xs (room - total E.families) k _ E.others (omega (arith, S.inside)) E.others_read))
 
 -- ---- A WHOLE SHEET that was read: its header, its elements, and no byte after them
 pub record SheetRead (xs : List ℕ) (Fs : List Forest) : Type 0 where
