@@ -19,7 +19,7 @@ use Rattle.sheets.proofs.answer.read.Goals.{After-struct_known-2-1, Else-all-ne0
 got-at : (c : Else-all-ne0)
     →
     ProgressGot start c.read_records-all.result (elements_of c.args.sheet.now)
-got-at c =progress_got _ _ _ (sheet_numbered _) c.read_records-all.ensures.fact_1 c.if-all-ne0.false
+got-at c = progress_got _ _ _ (sheet_numbered _) c.read_records-all.ensures.fact_1 c.if-all-ne0.false
 
 sheet-at : (c : Else-all-ne0) → SheetRead c.args.sheet.now (got-at c).elements
 sheet-at c = sheet_read _ _ (got-at c).is
@@ -51,13 +51,17 @@ overflow_cast-all c = omega (arith, end_is _ _ (got-at (goal.at.overflow_cast-al
 
 pub judge-requires : goal.judge-requires
 judge-requires c = 
-    let p = (let S = sheet-at (goal.at.judge-requires c).Else-all-ne0 in
+    let S = sheet-at (goal.at.judge-requires c).Else-all-ne0 in
     let e = end_is _ _ (got-at (goal.at.judge-requires c).Else-all-ne0).progress in
     let Fs = (got-at (goal.at.judge-requires c).Else-all-ne0).elements in
     let ok = ok_ended _ Fs _ e S.each S.least S.most S.room in
-    rw (layout-at (goal.at.judge-requires c).After-struct_known-2-1)
-    (row_is Fs S.most S.room _ _ (written_at (goal.at.judge-requires c).Else-all-ne0), (omega (arith, e, ends_some Fs S.each S.least), (omega (arith, e, ends_most Fs S.each), ok)))) in
-    record { fact_1 = p.0; fact_2 = p.1.0; fact_3 = p.1.1.0; fact_4 = p.1.1.1 }
+    let layout = layout-at (goal.at.judge-requires c).After-struct_known-2-1 in
+    record {
+      fact_1 = rw layout (row_is Fs S.most S.room _ _ (written_at (goal.at.judge-requires c).Else-all-ne0));
+      fact_2 = omega (arith, e, ends_some Fs S.each S.least);
+      fact_3 = omega (arith, e, ends_most Fs S.each);
+      fact_4 = rw layout ok;
+    }
 
 pub returns : goal.returns
 returns c =

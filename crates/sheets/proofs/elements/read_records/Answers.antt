@@ -10,7 +10,7 @@ use Rattle.sheets.proofs.SheetSteps.{header_refused, header_there, elements_refu
 use Rattle.sheets.proofs.ElementSteps.{refused_on_all}
 use borrow.Author.Rules.{rules}
 use Rattle.sheets.proofs.elements.read_records.Goals as goal
-use Rattle.sheets.proofs.elements.read_records.Goals.{After-read_elements-all, After-record_fault-fault, Else-all-ne0}
+use Rattle.sheets.proofs.elements.read_records.Goals.{After-read_elements-all, After-record_fault-fault}
 
 -- what the header's checks said
 fault-at : (c : After-record_fault-fault) → c.record_fault-fault.result ≡ fault 4 (top 256) c.args.sheet.now 1 0
@@ -24,11 +24,9 @@ elements-step : (c : After-read_elements-all)
 unfolding start
 elements-step c = rw (c.at_the_start-begin.ensures, c.le16_at-count.ensures.0) at c.read_elements-all.ensures
 
-got-at : (c : Else-all-ne0)
-    →
-    let xs = c.args.sheet.now in
-    ProgressGot start c.read_elements-all.result (elements_from xs 256 (le16 xs 8) 10)
-got-at c =progress_got _ _ _ (elements_numbered _ _ _ _) (elements-step c.before.before.before.before).0 c.if-all-ne0.false
+got-at : (c : After-read_elements-all) → c.read_elements-all.result.number ≡ 0
+    → let xs = c.args.sheet.now in ProgressGot start c.read_elements-all.result (elements_from xs 256 (le16 xs 8) 10)
+got-at c fine = progress_got _ _ _ (elements_numbered _ _ _ _) (elements-step c).0 fine
 
 pub returns-then-fault-ne0 : goal.returns-then-fault-ne0
 returns-then-fault-ne0 c = 
@@ -54,7 +52,7 @@ returns-then-all-ne0 c =
 pub returns-then-place-sheet : goal.returns-then-place-sheet
 unfolding start
 returns-then-place-sheet c = 
-    let p = (let G = got-at (goal.at.returns-then-place-sheet c).Else-all-ne0 in
+    let p = (let G = got-at (goal.at.returns-then-place-sheet c).After-read_elements-all c.if-all-ne0.false in
     let trailing = trailing_refused _ _ (fault-at (goal.at.returns-then-place-sheet c).After-record_fault-fault) c.if-fault-ne0.false G.elements G.is (omega (arith, G.place)) in
     refused_on_all _ _ _ (rw (c.stop-then-place-sheet.ensures, G.place) trailing) _ _) in
     record { fact_1 = p.0; fact_2 = p.1 }
@@ -62,7 +60,7 @@ returns-then-place-sheet c =
 pub returns : goal.returns
 unfolding start
 returns c = 
-    let p = (let G = got-at (goal.at.returns c).Else-all-ne0 in
+    let G = got-at (goal.at.returns c).After-read_elements-all c.if-all-ne0.false in
     let all = all_read _ _ (fault-at (goal.at.returns c).After-record_fault-fault) c.if-fault-ne0.false G.elements G.is (omega (arith, G.place)) in
-    rw all (rw G.is at (elements-step (goal.at.returns c).After-read_elements-all))) in
-    record { fact_1 = p.0; fact_2 = p.1 }
+    let step = rw G.is at (elements-step (goal.at.returns c).After-read_elements-all) in
+    record { fact_1 = rw all step.0; fact_2 = rw all step.1 }

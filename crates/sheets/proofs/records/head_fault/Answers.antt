@@ -17,7 +17,7 @@ due-length : (c : Else-kind-due) → let a = c.args in a.long ≡ length_of a.du
 due-length c = c.requires.fact_3 ∙ ap length_of c.if-kind-due.false
 
 length_is : (c : Else-le16_at-long) → let a = c.args in le16 a.sheet.now a.at ≡ length_of a.due
-length_is c = sym c.le16_at.ensures.0 ∙ c.if-le16_at-long.false ∙ due-length (goal.at.overflow_sub-sheet c).Else-kind-due
+length_is c = sym c.le16_at.ensures.0 ∙ c.if-le16_at-long.false ∙ (c.requires.fact_3 ∙ ap length_of c.if-kind-due.false)
 
 pub returns-then-kind-due : goal.returns-then-kind-due
 returns-then-kind-due c = head_kind _ _ _ (omega arith) (λ e. c.if-kind-due.true (c.requires.fact_2 ∙ e))

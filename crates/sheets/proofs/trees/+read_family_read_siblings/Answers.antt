@@ -65,7 +65,7 @@ kids-row-long t c =
     same_len_mid 6 (length row - 6) row c.read_siblings-kids.new.numbers (search rules)
 
 kids-row-room : (t : ℕ) (c : read_family-After-read_siblings-kids t) → 6 ≤ length (kids-row t c)
-kids-row-room t c = omega (arith, kids-row-long t c, (taken_at t c.before.before.before.before).room)
+kids-row-room t c = omega (arith, kids-row-long t c, (taken _ _ _ _ (omega arith) _ c.record_fault-fault.ensures c.if-fault-ne0.false).room)
 
 -- and they stand behind room for the family's own
 kids-written : (t : ℕ) (c : read_family-After-read_siblings-kids t)
@@ -101,9 +101,9 @@ pub read_family-read_siblings-kids-requires : goal.read_family-read_siblings-kid
 read_family-read_siblings-kids-requires t c =
     let T = taken_at t (goal.at.read_family-read_siblings-kids-requires t c).Else-fault-ne0 in
     let e = c.family_record-f.ensures in
-    let deep : c.args.levels ≤ 1 → c.family_record-f.result.children ≡ 0 = rw e.0 T.deep in
+    let deep : c.args.levels ≤ 1 → c.family_record-f.result.children ≡ 0 = rw e.fact_1 T.deep in
     let room = room_behind c.args.numbers.now c.args.limits.room 1 (row-long t (goal.at.read_family-read_siblings-kids-requires t c).After-slice_known-1) T.room (room_small t (goal.at.read_family-read_siblings-kids-requires t c).After-slice_known-1) in
-    (omega (arith, e.1, level-left t (goal.at.read_family-read_siblings-kids-requires t c).After-slice_known-1, c.decreases), (family_inside _ _ T.head, (children_deep _ _ e.1 deep, rw c.inner_limits.ensures room)))
+    (omega (arith, e.fact_2, level-left t (goal.at.read_family-read_siblings-kids-requires t c).After-slice_known-1, c.decreases), (family_inside _ _ T.head, (children_deep _ _ e.fact_2 deep, rw c.inner_limits.ensures room)))
 
 pub read_family-returns-then-kids-ne0 : goal.read_family-returns-then-kids-ne0
 read_family-returns-then-kids-ne0 t c =
@@ -127,9 +127,8 @@ read_family-put_family-requires t c = length-take-le 6 (kids-row t (goal.at.read
 
 pub read_family-last_byte-requires : goal.read_family-last_byte-requires
 read_family-last_byte-requires t c = 
-    let p = (let T = taken_at t (goal.at.read_family-last_byte-requires t c).Else-fault-ne0 in
-    rw c.family_record-f.ensures.fact_1 (T.fits.some, T.fits.forward)) in
-    record { fact_1 = p.0; fact_2 = p.1 }
+    let T = taken_at t (goal.at.read_family-last_byte-requires t c).Else-fault-ne0 in
+    record { fact_1 = rw c.family_record-f.ensures.fact_1 T.fits.some; fact_2 = rw c.family_record-f.ensures.fact_1 T.fits.forward }
 
 pub read_family-overflow_add-result : goal.read_family-overflow_add-result
 read_family-overflow_add-result t c = omega (arith, c.last_byte.ensures.fact_2)
@@ -229,4 +228,4 @@ read_siblings-returns t c =
     let a = c.args in
     let O = first_at t (goal.at.read_siblings-returns t c).After-struct_known-2-1 in
     let r = c.read_siblings in
-    (rest_step _ _ _ _ _ _ O _ r.ensures.0, rest_written _ _ _ _ _ _ O a.numbers.now c.read_family-first.new.numbers r.new.1.1.1.1.1.0 _ _ refl refl c.read_family-first.ensures.1 r.ensures.1)
+    (rest_step _ _ _ _ _ _ O _ r.ensures.0, rest_written _ _ _ _ _ _ O a.numbers.now c.read_family-first.new.numbers r.new.numbers _ _ refl refl c.read_family-first.ensures.1 r.ensures.1)
