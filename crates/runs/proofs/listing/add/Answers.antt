@@ -14,7 +14,7 @@ use Rattle.runs.proofs.listing.add.Goals.{Joined-next-list, else-next-list, then
 -- what stands in the list where the two ways meet
 written : (c : Joined-next-list)
     → let a = c.args in c.if-next-list.list ≡ with_run a.list.now a.runs (a.walk.x.0 ∷ a.len ∷ a.walk.one.rank.0 ∷ a.walk.two.rank.0 ∷ [])
-written c = elim c.if-next-list.branch [ then-next-list w ↦ w.1 ∙ four_written _ _ _ _ _ _ w.0.taken | else-next-list w ↦ w.1 ∙ none_written _ _ _ w.0.left ]
+written c = elim c.if-next-list.branch [ then-next-list w ↦ w.list-is ∙ four_written _ _ _ _ _ _ w.if-next-list.true | else-next-list w ↦ w.list-is ∙ none_written _ _ _ w.if-next-list.false ]
 
 pub bounds-list-at-then-next-list : goal.bounds-list-at-then-next-list
 bounds-list-at-then-next-list c = simp length-set (omega arith)
