@@ -6,23 +6,23 @@ use lib.ListN.{get_or, set}
 use borrow.Author.Rules.{rules}
 use Rattle.moves.proofs.Filling.{Turned, Filling, Fitting, filling_start, filling_turn, filling_same, filling_fits, filling_next, filling_all}
 use Rattle.moves.proofs.ahead.fill_strides.Goals as goal
-use Rattle.moves.proofs.ahead.fill_strides.Goals.{After-row_known-1, Then-owner-last}
+use Rattle.moves.proofs.ahead.fill_strides.Goals.{After-row_known-1, Then-owner-last, then-owner-last, else-owner-last}
 
 -- where another owner has the place, that one has the run, of none yet
-turn : (c : Then-owner-last) →let s = c.args in
+turn : (c : Then-owner-last) → let s = c.args in
     let owner = get_or s.owners.now (c.loop-place.place - 1) 0 in let nexts = set c.loop-place.nexts c.loop-place.last (c.loop-place.place - 1 + 1) in
     Turned s.owners.now s.period s.nexts.now c.loop-place.place owner 0 (get_or nexts owner 0 - (c.loop-place.place - 1) - 1) nexts
 turn c =
     filling_turn c.loop-place.invariant c.loop-place-test.true c.requires.fact_1 c.if-owner-last.true
 
 -- where the two ways meet, the owner of the place has the run
-turned : (c : After-row_known-1) →let s = c.args in
-    Turned s.owners.now s.period s.nexts.now c.loop-place.place c.if-owner-last.new c.if-owner-last.run c.if-owner-last.gap c.if-owner-last.nexts
+turned : (c : After-row_known-1) → let s = c.args in
+    Turned s.owners.now s.period s.nexts.now c.loop-place.place c.if-owner-last.last c.if-owner-last.run c.if-owner-last.gap c.if-owner-last.nexts
 turned c =
-    ⊎_elim
-    (λ w. rw (w.2, w.3, w.4, w.5) (turn (record { before = c.before; if1 = w.0 })))
-    (λ w. rw (w.1, w.2, w.3, w.4) (filling_same c.loop-place.invariant w.0.left))
-    c.if-owner-last.branch
+    elim c.if-owner-last.branch [
+      then-owner-last w ↦ rw (w.nexts-is, w.last-is, w.run-is, w.gap-is) (filling_turn c.loop-place.invariant c.loop-place-test.true c.requires.fact_1 w.if-owner-last.true)
+    | else-owner-last w ↦ rw (w.nexts-is, w.last-is, w.run-is, w.gap-is) (filling_same c.loop-place.invariant w.if-owner-last.false)
+    ]
 
 fits : (c : After-row_known-1) →
     Fitting c.loop-place.place c.if-owner-last.run c.if-owner-last.gap c.loop-place.runs c.loop-place.hops
@@ -44,10 +44,10 @@ pub loop-place-init : goal.loop-place-init
 loop-place-init c = filling_start c.requires.fact_1 c.requires.fact_2
 
 pub bounds-nexts-last : goal.bounds-nexts-last
-bounds-nexts-last c = (loop-holds c).faces.there
+bounds-nexts-last c = (filling_start c.requires.fact_1 c.requires.fact_2).faces.there
 
 pub overflow_sub-gap : goal.overflow_sub-gap
-overflow_sub-gap c = omega (arith, (loop-holds c).faces.apart)
+overflow_sub-gap c = omega (arith, (filling_start c.requires.fact_1 c.requires.fact_2).faces.apart)
 
 pub bounds-owners-place : goal.bounds-owners-place
 bounds-owners-place c = omega (arith, c.loop-place.invariant.faces.here.inside, c.requires.fact_1.held)

@@ -10,7 +10,7 @@ returns-then-window c = gather_empty c.args.file.now _ c.requires.fact_3 c.if-wi
 
 pub gather_by_tables-requires : goal.gather_by_tables-requires
 gather_by_tables-requires c =
-    let small = side_smaller c.requires.fact_1 2048 _ c.fits2.ensures c.if-fits.true in
+    let small = side_smaller c.requires.fact_1 2048 _ c.fits.ensures c.if-fits.true in
     tables_ask small c.requires.fact_2 c.requires.fact_3 c.if-window.false (omega arith)
 
 pub gather_by_tables-requires-2 : goal.gather_by_tables-requires-2

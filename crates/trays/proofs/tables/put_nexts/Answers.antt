@@ -8,7 +8,7 @@ use Rattle.trays.proofs.tables.put_nexts.Goals as goal
 use Rattle.trays.proofs.tables.put_nexts.Goals.{After-struct_known-in-loop-e-1}
 
 -- the element's first byte
-byte : (c : After-struct_known-in-loop-e-1) →let s = c.args in
+byte : (c : After-struct_known-in-loop-e-1) → let s = c.args in
     FirstAt s.layout s.size c.loop-e.e c.file_inverse-byte.result.0
 byte c =
     first_at _ c.requires.fact_2 c.requires.fact_1 c.selection_of-s.ensures c.file_inverse-byte.ensures
