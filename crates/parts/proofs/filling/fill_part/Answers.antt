@@ -1,7 +1,7 @@
 -- `fill_part` meets its contract. The loop's invariant: what is filled and what is left make the whole. Assumes nothing.
 use mathlib.Core.Path.{◌≡◌, ◌∙◌}
 use mathlib.Core.Logic.{◌⊎◌, ⊎_elim, inl, inr}
-use Prim.Native.Nat.{◌-◌}
+use Prim.Native.Nat.{ℕ, ◌-◌, ◌≤◌}
 use native.Mathlib.Omega.{arith}
 use borrow.Author.Tests.{eqb-true, eqb-false}
 use Rattle.counting.specs.Trays.{in_tray}
@@ -12,7 +12,7 @@ use Rattle.parts.proofs.Piecing.{piece_asks, step_just}
 use Rattle.parts.proofs.Renewing.{Renewing, renewing_start, renewing_end, AtPiece, source_asked, copy_asked, beyond_asked, far_least, far_over}
 use Rattle.parts.proofs.Renewing.{piece_forward, piece_copied, piece_passed}
 use Rattle.parts.proofs.filling.fill_part.Goals as goal
-use Rattle.parts.proofs.filling.fill_part.Goals.{After-piece_at-piece, Joined-then-only-eq0, else-only-eq0, then-only-eq0}
+use Rattle.parts.proofs.filling.fill_part.Goals.{After-piece_at-piece, then-only-eq0+then-only-ne0, then-only-eq0+else-only-ne0, else-only-eq0+else-only-piece}
 
 -- what is known at a piece
 here : (c : After-piece_at-piece) →
@@ -32,10 +32,8 @@ here c =
     }
 
 -- .. that is taken
-chosen : (c : Joined-then-only-eq0) →
-    let only = c.args.only in
-    (only ≡ 0) ⊎ (only ≡ c.piece_at-piece.result.owner)
-chosen c = elim c.if-only-eq0.branch [ then-only-eq0 v ↦ inl v.taken | else-only-eq0 v ↦ inr (eqb-true _ _ v.2.taken) ]
+chosen : (only owner : ℕ) → (only ≡ 0) ⊎ ((only ≡ 0 → ⊥) × (only ≡ owner)) → (only ≡ 0) ⊎ (only ≡ owner)
+chosen only owner = ⊎_elim inl (λ own. inr own.1)
 
 pub begin-walk-requires : goal.begin-walk-requires
 begin-walk-requires c = 
@@ -74,28 +72,26 @@ further-walk-requires c =
 pub loop-walk-smaller : goal.loop-walk-smaller
 loop-walk-smaller c =
     let A = here (goal.at.loop-walk-smaller c).After-piece_at-piece in
-    omega (
-      arith,
-      piece_forward A _ c.further-walk.ensures
-          (⊎_elim (λ w. rw w.9 (far_least A _ w.7.ensures)) (⊎_elim (λ w. omega arith) (λ w. omega arith)) c.if-only-eq0.branch),
-      A.inside,
-      A.long,
-    )
+    let least : c.piece_at-piece.result.len ≤ c.if-only-eq0.step = elim c.if-only-eq0.branch [
+      then-only-eq0+then-only-ne0 w ↦ rw w.step-is (far_least A _ (w.beyond-step.ensures.fact_1, w.beyond-step.ensures.fact_2))
+    | then-only-eq0+else-only-ne0 w ↦ omega arith
+    | else-only-eq0+else-only-piece w ↦ omega arith
+    ] in
+    omega (arith, piece_forward A _ c.further-walk.ensures least, A.inside, A.long)
 
 pub loop-walk-preserved : goal.loop-walk-preserved
 loop-walk-preserved c =
     let A = here (goal.at.loop-walk-preserved c).After-piece_at-piece in
     let on = c.further-walk.ensures in
-    ⊎_elim
-    (λ w.
-    let own = chosen (record { before = c.before.before; if2 = w.0 }) in
-    piece_copied A _ on (rw w.9 (far_over A _ w.7.ensures w.6.taken own)) own _ w.1.ensures _ (w.8 ∙ w.3.ensures))
-    (⊎_elim
-    (λ w.
-    let own = chosen (record { before = c.before.before; if2 = w.0 }) in
-    piece_copied A _ on (step_just _ _ _ w.8) own _ w.1.ensures _ (w.7 ∙ w.3.ensures))
-    (λ w. piece_passed A _ on (step_just _ _ _ w.4) w.0.left (eqb-false _ _ w.2.left) _ w.3))
-    c.if-only-eq0.branch
+    elim c.if-only-eq0.branch [
+      then-only-eq0+then-only-ne0 w ↦
+        let own = chosen _ _ w.then-only-eq0.either in
+        let far = far_over A _ (w.beyond-step.ensures.fact_1, w.beyond-step.ensures.fact_2) w.if-only-ne0.true own in
+        piece_copied A _ on (rw w.step-is far) own _ w.source_of-source.ensures _ (w.part-is ∙ w.copy_run.ensures)
+    | then-only-eq0+else-only-ne0 w ↦
+        piece_copied A _ on (step_just _ _ _ w.step-is) (chosen _ _ w.then-only-eq0.either) _ w.source_of-source.ensures _ (w.part-is ∙ w.copy_run.ensures)
+    | else-only-eq0+else-only-piece w ↦ piece_passed A _ on (step_just _ _ _ w.step-is) w.if-only-eq0.false w.if-only-piece.false _ w.part-is
+    ]
 
 pub returns : goal.returns
 returns c =

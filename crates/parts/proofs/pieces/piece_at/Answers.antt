@@ -36,6 +36,6 @@ pub returns : goal.returns
 returns c =
     let keep = c.wide.ensures in
     let args = c.args in
-    let len : c.if-run-keep.t35 ≡ min args.run (get_or args.keeps.now (place_in args.cycle (args.window.start.0 + args.at)) 0 + 1) =
+    let len : c.if-run-keep.result ≡ min args.run (get_or args.keeps.now (place_in args.cycle (args.window.start.0 + args.at)) 0 + 1) =
     elim c.if-run-keep.branch [ then-run-keep w ↦ omega arith | else-run-keep w ↦ omega arith ] in
     rw len refl
