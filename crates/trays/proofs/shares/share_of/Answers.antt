@@ -5,8 +5,7 @@ use Rattle.counting.proofs.Counts.{count_mono}
 use Rattle.maps.specs.Selected.{belongs}
 use Rattle.trays.proofs.shares.share_of.Goals as goal
 
--- NOT FOUND overflow-sub-t7
--- NOT FOUND sub-t7 c =
--- NOT FOUND     let start = c.before.before.before.before.before in
--- NOT FOUND     let more = count_mono (belongs start.args.s start.args.numbers.now) _ _ start.requires.1.ordered in
--- NOT FOUND     omega (arith, c.before.before.before.file-rank.ensures, c.before.before.file-rank2.ensures, more)
+pub overflow_sub-result : goal.overflow_sub-result
+overflow_sub-result c =
+    let more = count_mono (belongs c.args.s c.args.numbers.now) _ _ c.requires.fact_2.ordered in
+    omega (arith, c.file_rank-before.ensures, c.file_rank-last.ensures, more)

@@ -41,7 +41,7 @@ pub overflow_add-at : goal.overflow_add-at
 overflow_add-at c =
     let fits =
     allotting_fits c.requires.fact_2 c.requires.fact_3 c.loop-e.invariant c.loop-e-test.true c.requires.fact_1 _ c.selection_of-s.ensures
-    _ c.share_of-share.ensures c.requires.fact_4 in
+    _ (let share = c.share_of-share.ensures in (share.fact_1, (share.fact_2, (share.fact_3, share.fact_4)))) c.requires.fact_4 in
     omega (arith, fits)
 
 pub overflow_add-e : goal.overflow_add-e
@@ -51,7 +51,7 @@ pub loop-e-preserved : goal.loop-e-preserved
 loop-e-preserved c =
     let e = c.loop-e.e in
     allotting_next c.requires.fact_2 c.requires.fact_3 c.loop-e.invariant c.loop-e-test.true c.requires.fact_1 _ c.selection_of-s.ensures
-    _ c.share_of-share.ensures (4 * e + 4 - 4 * e) (omega arith) _ c.put_share.ensures
+    _ (let share = c.share_of-share.ensures in (share.fact_1, (share.fact_2, (share.fact_3, share.fact_4)))) (4 * e + 4 - 4 * e) (omega arith) _ c.put_share.ensures
 
 pub returns : goal.returns
 returns c =

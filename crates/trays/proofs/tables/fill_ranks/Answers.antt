@@ -22,7 +22,7 @@ pub offset_bounds-counts-owner : goal.offset_bounds-counts-owner
 offset_bounds-counts-owner c = omega (arith, c.shared_slice_known-1.given c.loop-place.place)
 
 pub bounds-counts-owner : goal.bounds-counts-owner
-bounds-counts-owner c = (asks (goal.at.bounds-counts-owner c).After-slice_known-1).there
+bounds-counts-owner c = (ranking_asks c.loop-place.invariant c.loop-place-test.true).there
 
 pub overflow_cast-ranks : goal.overflow_cast-ranks
 overflow_cast-ranks c = omega (arith, (asks c).small)

@@ -30,7 +30,7 @@ loop-e-smaller c = omega (arith, c.loop-e-test.true)
 pub loop-e-preserved : goal.loop-e-preserved
 loop-e-preserved c =
     rooming_next c.requires.fact_2 c.loop-e.invariant c.loop-e-test.true _ c.selection_of-s.ensures _ c.requires.fact_1
-    _ c.fits2.ensures (not-false _ c.if-not-fits.false)
+    _ c.fits.ensures c.if-not-fits.false
 
 pub returns : goal.returns
 returns c = λ _. rooming_end c.requires.fact_2 c.loop-e.invariant c.loop-e-test.false
