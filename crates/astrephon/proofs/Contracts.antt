@@ -5,7 +5,8 @@ use mathlib.Core.List.{List}
 use Prim.Native.Nat.{ℕ}
 use base.Fml.{GName}
 use contract.Lifetimes.{Lfts}
-use denote.Ref.{Bor}
+use denote.Bor.{Bor}
+use denote.MutBor.{MutBor}
 use Rattle.families.specs.declared.FileOffset.{FileOffset}
 use Rattle.families.specs.declared.SubfileOffset.{SubfileOffset}
 use Rattle.astrephon.specs.declared.Checked.{Checked}
@@ -35,8 +36,12 @@ pub record Made (n : ℕ) : Type 0 where
   pub pointer : ℕ → ℕ × ℕ
   pub name : ℕ → GName
 
--- the k-th thing that was lent, with these contents
-abbrev lent : {n : ℕ} → Made n → (k : ℕ) → List ℕ → Bor (List ℕ)
+-- the k-th thing that was lent, with these contents: to be read
+abbrev shown : {n : ℕ} → Made n → (k : ℕ) → List ℕ → Bor (List ℕ)
+shown m k xs = record { ref_ptr = m.pointer k; now = xs }
+
+-- .. and to be written
+abbrev lent : {n : ℕ} → Made n → (k : ℕ) → List ℕ → MutBor (List ℕ)
 lent m k xs = record { ref_ptr = m.pointer k; ghost_name = m.name k; now = xs }
 
 abbrev in_file : ℕ → FileOffset
@@ -47,58 +52,58 @@ in_subfile y = record { 0 = y }
 
 -- ---- calls that write nothing: what they were given, and the answer
 abbrev pub Check : Made 1 → (xs : List ℕ) → Checked → Type 0
-Check m xs answer = check.Post m.lifetimes (lent m 0 xs, tt) answer (lent m 0 xs, tt)
+Check m xs answer = check.Post m.lifetimes (shown m 0 xs, tt) answer (shown m 0 xs, tt)
 
 abbrev pub Exact : Made 1 → (xs : List ℕ) → (e x : ℕ) → Mapped → Type 0
-Exact m xs e x answer = exact.Post m.lifetimes (lent m 0 xs, (e, (in_file x, tt))) answer (lent m 0 xs, (e, (in_file x, tt)))
+Exact m xs e x answer = exact.Post m.lifetimes (shown m 0 xs, (e, (in_file x, tt))) answer (shown m 0 xs, (e, (in_file x, tt)))
 
 abbrev pub Next : Made 1 → (xs : List ℕ) → (e x : ℕ) → Mapped → Type 0
-Next m xs e x answer = next.Post m.lifetimes (lent m 0 xs, (e, (in_file x, tt))) answer (lent m 0 xs, (e, (in_file x, tt)))
+Next m xs e x answer = next.Post m.lifetimes (shown m 0 xs, (e, (in_file x, tt))) answer (shown m 0 xs, (e, (in_file x, tt)))
 
 abbrev pub Inverse : Made 1 → (xs : List ℕ) → (e y : ℕ) → Located → Type 0
-Inverse m xs e y answer = inverse.Post m.lifetimes (lent m 0 xs, (e, (in_subfile y, tt))) answer (lent m 0 xs, (e, (in_subfile y, tt)))
+Inverse m xs e y answer = inverse.Post m.lifetimes (shown m 0 xs, (e, (in_subfile y, tt))) answer (shown m 0 xs, (e, (in_subfile y, tt)))
 
 abbrev pub Span : Made 1 → (xs : List ℕ) → (e a z : ℕ) → Spanned → Type 0
-Span m xs e a z answer = span.Post m.lifetimes (lent m 0 xs, (e, (in_file a, (in_file z, tt)))) answer (lent m 0 xs, (e, (in_file a, (in_file z, tt))))
+Span m xs e a z answer = span.Post m.lifetimes (shown m 0 xs, (e, (in_file a, (in_file z, tt)))) answer (shown m 0 xs, (e, (in_file a, (in_file z, tt))))
 
 abbrev pub PackedLen : Made 1 → (xs : List ℕ) → (e a b : ℕ) → Measured → Type 0
-PackedLen m xs e a b answer = packed-len.Post m.lifetimes (lent m 0 xs, (e, (in_file a, (in_file b, tt)))) answer (lent m 0 xs, (e, (in_file a, (in_file b, tt))))
+PackedLen m xs e a b answer = packed-len.Post m.lifetimes (shown m 0 xs, (e, (in_file a, (in_file b, tt)))) answer (shown m 0 xs, (e, (in_file a, (in_file b, tt))))
 
 -- ---- calls that write: also what the buffer held, and what it holds afterwards
 abbrev pub SharedRuns : Made 3 → (xs ys : List ℕ) → (i j a b : ℕ) → (held : List ℕ) → Listed → (later : List ℕ) → Type 0
 SharedRuns m xs ys i j a b held answer later =
     shared-runs.Post m.lifetimes
-    (lent m 0 xs, (lent m 1 ys, (i, (j, (in_file a, (in_file b, (lent m 2 held, tt)))))))
+    (shown m 0 xs, (shown m 1 ys, (i, (j, (in_file a, (in_file b, (lent m 2 held, tt)))))))
     answer
-    (lent m 0 xs, (lent m 1 ys, (i, (j, (in_file a, (in_file b, (lent m 2 later, tt)))))))
+    (shown m 0 xs, (shown m 1 ys, (i, (j, (in_file a, (in_file b, (lent m 2 later, tt)))))))
 
 abbrev pub Gather : Made 3 → (xs : List ℕ) → (e a b : ℕ) → (file held : List ℕ) → Carried → (later : List ℕ) → Type 0
 Gather m xs e a b file held answer later =
     gather.Post m.lifetimes
-    (lent m 0 xs, (e, (in_file a, (in_file b, (lent m 1 file, (lent m 2 held, tt))))))
+    (shown m 0 xs, (e, (in_file a, (in_file b, (shown m 1 file, (lent m 2 held, tt))))))
     answer
-    (lent m 0 xs, (e, (in_file a, (in_file b, (lent m 1 file, (lent m 2 later, tt))))))
+    (shown m 0 xs, (e, (in_file a, (in_file b, (shown m 1 file, (lent m 2 later, tt))))))
 
 abbrev pub Scatter : Made 3 → (xs : List ℕ) → (e a b : ℕ) → (packed held : List ℕ) → Carried → (later : List ℕ) → Type 0
 Scatter m xs e a b packed held answer later =
     scatter.Post m.lifetimes
-    (lent m 0 xs, (e, (in_file a, (in_file b, (lent m 1 packed, (lent m 2 held, tt))))))
+    (shown m 0 xs, (e, (in_file a, (in_file b, (shown m 1 packed, (lent m 2 held, tt))))))
     answer
-    (lent m 0 xs, (e, (in_file a, (in_file b, (lent m 1 packed, (lent m 2 later, tt))))))
+    (shown m 0 xs, (e, (in_file a, (in_file b, (shown m 1 packed, (lent m 2 later, tt))))))
 
 abbrev pub MoveTray : Made 4 → (xs ys : List ℕ) → (a b : ℕ) → (t held : List ℕ) → Carried → (later : List ℕ) → Type 0
 MoveTray m xs ys a b t held answer later =
     move-tray.Post m.lifetimes
-    (lent m 0 xs, (lent m 1 ys, (in_file a, (in_file b, (lent m 2 t, (lent m 3 held, tt))))))
+    (shown m 0 xs, (shown m 1 ys, (in_file a, (in_file b, (shown m 2 t, (lent m 3 held, tt))))))
     answer
-    (lent m 0 xs, (lent m 1 ys, (in_file a, (in_file b, (lent m 2 t, (lent m 3 later, tt))))))
+    (shown m 0 xs, (shown m 1 ys, (in_file a, (in_file b, (shown m 2 t, (lent m 3 later, tt))))))
 
 abbrev pub MovePair : Made 4 → (xs ys : List ℕ) → (i j a b : ℕ) → (t held : List ℕ) → Carried → (later : List ℕ) → Type 0
 MovePair m xs ys i j a b t held answer later =
     move-pair.Post m.lifetimes
-    (lent m 0 xs, (lent m 1 ys, (i, (j, (in_file a, (in_file b, (lent m 2 t, (lent m 3 held, tt))))))))
+    (shown m 0 xs, (shown m 1 ys, (i, (j, (in_file a, (in_file b, (shown m 2 t, (lent m 3 held, tt))))))))
     answer
-    (lent m 0 xs, (lent m 1 ys, (i, (j, (in_file a, (in_file b, (lent m 2 t, (lent m 3 later, tt))))))))
+    (shown m 0 xs, (shown m 1 ys, (i, (j, (in_file a, (in_file b, (shown m 2 t, (lent m 3 later, tt))))))))
 
 abbrev pub ListSheet : Made 2 → (xs held : List ℕ) → Written → (later : List ℕ) → Type 0
-ListSheet m xs held answer later = list-sheet.Post m.lifetimes (lent m 0 xs, (lent m 1 held, tt)) answer (lent m 0 xs, (lent m 1 later, tt))
+ListSheet m xs held answer later = list-sheet.Post m.lifetimes (shown m 0 xs, (lent m 1 held, tt)) answer (shown m 0 xs, (lent m 1 later, tt))

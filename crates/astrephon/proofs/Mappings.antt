@@ -105,13 +105,13 @@ module _ {r : Reading} {e : ℕ} {s : Selection} {row : List ℕ} (O : Opened r 
         has_too : b ≡ offsets_of r e x
         has_too = has ∙ ap (λ (p : ℕ → Bool). p x) O.is
 
-        pub exact_foreign : (f : Refusal) → f ≡ call_refusal FOREIGN 0 → not b ≡ true → refusal_says f ≡ exact_of r e x
+        pub exact_foreign : (f : Refusal) → f ≡ call_refusal FOREIGN 0 → b ≡ false → refusal_says f ≡ exact_of r e x
         unfolding exact_of
         exact_foreign f made foreign =
-            fault_refused _ _ FOREIGN (row_there FOREIGN _ (ap not (sym has_too) ∙ foreign)) f made (λ z. absurd (omega arith)) ∙ offset_on r e x offset _
+            fault_refused _ _ FOREIGN (row_there FOREIGN _ (ap not (sym has_too ∙ foreign))) f made (λ z. absurd (omega arith)) ∙ offset_on r e x offset _
 
-        pub exact_at : (y : ℕ) → y ≡ count_below (belongs s row) x → not b ≡ false → done (y ∷ []) ≡ exact_of r e x
-        exact_at y rank own = ap (λ (m : ℕ). done (m ∷ [])) (ranked x y rank) ∙ exact_own offset (sym has_too ∙ not-false b own)
+        pub exact_at : (y : ℕ) → y ≡ count_below (belongs s row) x → b ≡ true → done (y ∷ []) ≡ exact_of r e x
+        exact_at y rank own = ap (λ (m : ℕ). done (m ∷ [])) (ranked x y rank) ∙ exact_own offset (sym has_too ∙ own)
 
       pub next_at : (y : ℕ) → y ≡ count_below (belongs s row) x → done (y ∷ []) ≡ next_of r e x
       next_at y rank = ap (λ (m : ℕ). done (m ∷ [])) (ranked x y rank) ∙ next_any offset
