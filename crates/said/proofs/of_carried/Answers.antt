@@ -5,7 +5,7 @@ use borrow.Author.Rules.{rules}
 use Rattle.said.proofs.of_carried.Goals as goal
 
 pub returns-in-Done : goal.returns-in-Done
-returns-in-Done c = telling carried_says c.enum_told-1.given.1 _ c.done.ensures
+returns-in-Done c = telling carried_says c.in-Done.is _ c.done.ensures
 
 pub returns-in-Refused : goal.returns-in-Refused
-returns-in-Refused c = telling carried_says c.carried-1.given.1 _ c.refused.ensures
+returns-in-Refused c = telling carried_says c.in-Refused.is _ c.refused.ensures

@@ -5,7 +5,7 @@ use borrow.Author.Rules.{rules}
 use Rattle.said.proofs.of_checked.Goals as goal
 
 pub returns-in-Accepted : goal.returns-in-Accepted
-returns-in-Accepted c = telling checked_says c.checked-1.given.1 _ c.done.ensures
+returns-in-Accepted c = telling checked_says c.in-Accepted.is _ c.done.ensures
 
 pub returns-in-Refused : goal.returns-in-Refused
-returns-in-Refused c = telling checked_says c.checked-in-Refused-1.given.1 _ c.refused.ensures
+returns-in-Refused c = telling checked_says c.in-Refused.is _ c.refused.ensures

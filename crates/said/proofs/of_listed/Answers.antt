@@ -5,7 +5,7 @@ use borrow.Author.Rules.{rules}
 use Rattle.said.proofs.of_listed.Goals as goal
 
 pub returns-in-Runs : goal.returns-in-Runs
-returns-in-Runs c = telling listed_says c.listed-1.given.1 _ c.done.ensures
+returns-in-Runs c = telling listed_says c.in-Runs.is _ c.done.ensures
 
 pub returns-in-Refused : goal.returns-in-Refused
-returns-in-Refused c = telling listed_says c.listed-in-Refused-1.given.1 _ c.refused.ensures
+returns-in-Refused c = telling listed_says c.in-Refused.is _ c.refused.ensures

@@ -5,7 +5,7 @@ use borrow.Author.Rules.{rules}
 use Rattle.said.proofs.of_located.Goals as goal
 
 pub returns-in-At : goal.returns-in-At
-returns-in-At c = telling located_says c.located-1.given.1 _ c.done.ensures
+returns-in-At c = telling located_says c.in-At.is _ c.done.ensures
 
 pub returns-in-Refused : goal.returns-in-Refused
-returns-in-Refused c = telling located_says c.located-in-Refused-1.given.1 _ c.refused.ensures
+returns-in-Refused c = telling located_says c.in-Refused.is _ c.refused.ensures

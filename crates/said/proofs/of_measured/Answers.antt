@@ -5,7 +5,7 @@ use borrow.Author.Rules.{rules}
 use Rattle.said.proofs.of_measured.Goals as goal
 
 pub returns-in-Bytes : goal.returns-in-Bytes
-returns-in-Bytes c = telling measured_says c.decreases.given.1 _ c.done.ensures
+returns-in-Bytes c = telling measured_says c.in-Bytes.is _ c.done.ensures
 
 pub returns-in-Refused : goal.returns-in-Refused
-returns-in-Refused c = telling measured_says c.measured-in-Refused-1.given.1 _ c.refused.ensures
+returns-in-Refused c = telling measured_says c.in-Refused.is _ c.refused.ensures

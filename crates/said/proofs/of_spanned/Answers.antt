@@ -5,7 +5,7 @@ use borrow.Author.Rules.{rules}
 use Rattle.said.proofs.of_spanned.Goals as goal
 
 pub returns-in-Range : goal.returns-in-Range
-returns-in-Range c = telling spanned_says c.spanned-1.given.1 _ c.done.ensures
+returns-in-Range c = telling spanned_says c.in-Range.is _ c.done.ensures
 
 pub returns-in-Refused : goal.returns-in-Refused
-returns-in-Refused c = telling spanned_says c.spanned-in-Refused-1.given.1 _ c.refused.ensures
+returns-in-Refused c = telling spanned_says c.in-Refused.is _ c.refused.ensures
