@@ -12,27 +12,27 @@ bounds-frame-0 c = omega (arith, first_fits _ c.requires)
 
 pub returns-in-1 : goal.returns-in-1
 unfolding asked_of
-returns-in-1 c = asked_told _ c.check.ensures c.in_default.keys1 refl
+returns-in-1 c = asked_told _ c.check.ensures c.in-1.is refl
 
 pub returns-in-2 : goal.returns-in-2
 unfolding asked_of
-returns-in-2 c = asked_told _ c.exact.ensures c.in_default.keys2 refl
+returns-in-2 c = asked_told _ c.exact.ensures c.in-2.is refl
 
 pub returns-in-3 : goal.returns-in-3
 unfolding asked_of
-returns-in-3 c = asked_told _ c.next.ensures c.in_default.keys3 refl
+returns-in-3 c = asked_told _ c.next.ensures c.in-3.is refl
 
 pub returns-in-4 : goal.returns-in-4
 unfolding asked_of
-returns-in-4 c = asked_told _ c.inverse.ensures c.in_default.keys4 refl
+returns-in-4 c = asked_told _ c.inverse.ensures c.in-4.is refl
 
 pub returns-in-5 : goal.returns-in-5
 unfolding asked_of
-returns-in-5 c = asked_told _ c.span.ensures c.in_default.keys5 refl
+returns-in-5 c = asked_told _ c.span.ensures c.in-5.is refl
 
 pub returns-in-17 : goal.returns-in-17
 unfolding asked_of
-returns-in-17 c = asked_told _ c.packed_length.ensures c.in_default.keys6 refl
+returns-in-17 c = asked_told _ c.packed_length.ensures c.in-17.is refl
 
 pub returns-in_default : goal.returns-in_default
-returns-in_default c = let none = c.in_default.rest in asked_unknown _ _ none.0.0.0.0.0.1 none.0.0.0.0.1 none.0.0.0.1 none.0.0.1 none.0.1 none.1
+returns-in_default c = asked_unknown _ _ (λ e. omega arith) (λ e. omega arith) (λ e. omega arith) (λ e. omega arith) (λ e. omega arith) (λ e. omega arith)

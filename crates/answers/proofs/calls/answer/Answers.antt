@@ -11,10 +11,10 @@ use Rattle.answers.proofs.calls.answer.Goals.{Else-not-is_whole}
 
 -- past the test the frame is whole
 whole : (c : Else-not-is_whole) → Whole c.args.frame.now
-whole c = eqb-true _ _ (sym c.is_whole.ensures ∙ not-false _ c.if-not-is_whole.false)
+whole c = eqb-true _ _ (sym c.is_whole.ensures ∙ c.if-not-is_whole.false)
 
 pub returns-then-not-is_whole : goal.returns-then-not-is_whole
-returns-then-not-is_whole c = (reply_cut _ (sym c.is_whole.ensures ∙ not-true _ c.if-not-is_whole.true), (omega arith, refl))
+returns-then-not-is_whole c = (reply_cut _ (sym c.is_whole.ensures ∙ c.if-not-is_whole.true), (omega arith, refl))
 
 pub into-into-requires : goal.into-into-requires
 into-into-requires c = whole c

@@ -21,10 +21,10 @@ copy_run-requires c = omega (arith, ap length c.into.ensures, c.requires.fact_2)
 
 pub returns-in_default : goal.returns-in_default
 returns-in_default c =
-    (reply_unknown _ c.requires.fact_1 (copied (goal.at.returns-in_default c).After-reply_to-arg-1) c.reply_to.ensures c.enum_told-1.given.1, (omega arith, refl))
+    (reply_unknown _ c.requires.fact_1 (copied (goal.at.returns-in_default c).After-reply_to-arg-1) c.reply_to.ensures c.in_default.is, (omega arith, refl))
 
 pub returns : goal.returns
 returns c = (
-      c.put_line.ensures.0 ∙ reply_told _ c.requires.fact_1 (copied (goal.at.returns c).After-reply_to-arg-1) c.reply_to.ensures _ c.told-1.given.1,
+      c.put_line.ensures.0 ∙ reply_told _ c.requires.fact_1 (copied (goal.at.returns c).After-reply_to-arg-1) c.reply_to.ensures _ c.in-Told.is,
       c.put_line.ensures.1,
     )

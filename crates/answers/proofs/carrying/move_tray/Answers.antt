@@ -6,4 +6,4 @@ use borrow.Author.Rules.{rules}
 use Rattle.answers.proofs.carrying.move_tray.Goals as goal
 
 pub returns : goal.returns
-returns c = told carried_says c.move_tray.result c.of_carried.ensures c.move_tray.ensures (λ t. move_call (c.sheet1-sheet1.ensures t) (c.sheet2-sheet2.ensures t) (c.number_at.ensures t) (c.number_at-2.ensures t) (c.from-from.ensures t) c.args.into.now)
+returns c = told carried_says c.move_tray.result c.of_carried.ensures (c.move_tray.ensures.fact_1, c.move_tray.ensures.fact_2) (λ t. move_call (c.sheet1-sheet1.ensures t) (c.sheet2-sheet2.ensures t) (c.number_at.ensures t) (c.number_at-2.ensures t) (c.from-from.ensures t) c.args.into.now)

@@ -14,17 +14,17 @@ pub loop-i-init : goal.loop-i-init
 loop-i-init c = returned_none
 
 pub offset_bounds-list-i : goal.offset_bounds-list-i
-offset_bounds-list-i c = omega (arith, c.pre)
+offset_bounds-list-i c = omega (arith, c.requires)
 
 pub overflow_mul-i : goal.overflow_mul-i
-overflow_mul-i c = omega (arith, c.pre)
+overflow_mul-i c = omega (arith, c.requires)
 
 pub put_slot-requires : goal.put_slot-requires
-put_slot-requires c = omega (arith, kept (goal.at.put_slot-requires c).At-loop-i, c.pre)
+put_slot-requires c = omega (arith, kept (goal.at.put_slot-requires c).At-loop-i, c.requires)
 
 pub loop-i-preserved : goal.loop-i-preserved
 loop-i-preserved c =
     returned_more c.loop-i.invariant c.requires (omega arith) c.put_slot.ensures
 
 pub returns : goal.returns
-returns c = returned_all c.loop-i.invariant c.pre (omega arith)
+returns c = returned_all c.loop-i.invariant c.requires (omega arith)

@@ -9,4 +9,4 @@ use borrow.Author.Rules.{rules}
 use Rattle.answers.proofs.writing.list_sheet.Goals as goal
 
 pub returns : goal.returns
-returns c = told written_says c.list_sheet.result c.of_written.ensures c.list_sheet.ensures (ap (λ (s : List ℕ). listing_call s c.args.into.now) c.sheet1.ensures)
+returns c = told written_says c.list_sheet.result c.of_written.ensures (c.list_sheet.ensures.fact_1, c.list_sheet.ensures.fact_2) (ap (λ (s : List ℕ). listing_call s c.args.into.now) c.sheet1.ensures)
