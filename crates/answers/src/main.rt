@@ -5,6 +5,7 @@
 // `carrying` for those that carry bytes and `writing` for those that write a list or a text; `lines` writes the line. All are functions on slices and are
 // proved to do just what their definitions say. No contract can say what is read or written, so this file is proved safe, and proved to end.
 #![tactic(auto)]
+
 mod asking;
 mod calls;
 mod carrying;

@@ -3,6 +3,7 @@
 // `checking` answers for one sheet, `mapping` maps offsets between the file and one element's subfile, `sharing` lists what two elements share,
 // `carrying` moves one element's bytes and `moving` bytes between trays, `listing` writes a sheet's listing. How each begins is in the crate `openings`.
 #![tactic(auto)]
+
 mod carrying;
 mod checking;
 mod listing;

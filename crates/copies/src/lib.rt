@@ -3,6 +3,7 @@
 // A run is covered by chunks of 64, 32, 16, 8, 4 or 2 bytes that may overlap, for a byte that is copied twice is the same byte. How long a
 // chunk is stands in the code that asks for it, as a number, so the compiler makes wide moves of the chunk and leaves no loop.
 #![tactic(auto)]
+
 ghost use Rattle.std.specs.Prelude.{◌≡◌, ◌+◌, ◌≤◌, ◌<◌, length, drop};
 ghost use Rattle.std.proofs.Math.Seq.{paste};
 

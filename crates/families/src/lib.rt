@@ -3,6 +3,7 @@
 // `segments` looks at one family, `siblings` at a list of them with their children (membership, size, end, rank, inverse), and
 // `painting` writes down which element owns each offset of a pattern.
 #![tactic(auto)]
+
 mod painting;
 mod row;
 mod segments;

@@ -2,6 +2,7 @@
 //
 // `line` puts one line into a text, `listing` all lines of a sheet.
 #![tactic(auto)]
+
 mod line;
 mod listing;
 

@@ -2,6 +2,7 @@
 //
 // `astrephon::list_sheet` writes the text, and is proved to. No contract can say what is read or printed, so this file is proved safe, and proved to end.
 #![tactic(auto)]
+
 use astrephon::Written;
 
 const INPUT: i32 = 0;

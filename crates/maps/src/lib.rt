@@ -2,6 +2,7 @@
 //
 // `mapping` says whether a file offset is selected, what rank it has, which file offset has a rank, and where a byte of a subfile stands in a tray.
 #![tactic(auto)]
+
 use families::FileOffset;
 
 mod mapping;

@@ -4,6 +4,7 @@
 // `ahead` looks from every place of a period to its owner's next run, `walks` goes from run to run by these tables, and `gathering` and `scattering` copy
 // the runs of one selection.
 #![tactic(auto)]
+
 mod ahead;
 mod gathering;
 mod scattering;

@@ -4,6 +4,7 @@
 // `refusals` makes a refusal; `opened` opens an element, `paired` one of each of two sheets, or both sheets; `ranges` gives the number that refuses an index,
 // an offset, a window or a length, or 0.
 #![tactic(auto)]
+
 use maps::Selection;
 use sheets::Reading;
 

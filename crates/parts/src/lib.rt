@@ -4,6 +4,7 @@
 // `pieces` finds what of a run stands in one place of the first tray, by the `shares` of its elements, and `filling` copies it to the part; `choices` are
 // what of the parts is moved.
 #![tactic(auto)]
+
 mod choices;
 mod filling;
 mod pieces;

@@ -3,6 +3,7 @@
 //
 // `tables` marks one period of a selection in a table, `walks` goes over two tables offset by offset, and `listing` writes the runs down.
 #![tactic(auto)]
+
 mod listing;
 mod tables;
 mod walks;

@@ -1,5 +1,6 @@
 // Said: what an answer says, as seven numbers in a struct, whatever type the answer has. This is how programs print answers, and hand them on to other languages.
 #![tactic(auto)]
+
 ghost use Rattle.std.specs.Prelude.{◌≡◌, [], ◌∷◌};
 ghost use Rattle.openings.specs.Said.{refusal_says};
 ghost use Rattle.openings.specs.Said.{done};

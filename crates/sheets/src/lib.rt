@@ -3,6 +3,7 @@
 // `digits` reads numbers, `records` finds a record's first fault, `trees` reads families and `elements` all records, in sheet order; `pattern` looks for
 // holes and overlaps; `answer` has the reader itself.
 #![tactic(auto)]
+
 use families::Layout;
 
 mod answer;

@@ -3,6 +3,7 @@
 // `moving` moves all, or what one pair of elements shares: by the `tables` of each layout and the `shares` of its elements, `filling` has each chosen part
 // of the second tray filled from the first.
 #![tactic(auto)]
+
 mod filling;
 mod moving;
 mod shares;

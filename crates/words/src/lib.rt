@@ -1,5 +1,6 @@
 // Words: words and numbers, each put into a lent text at some place. The answer is where it ends, and where the next begins.
 #![tactic(auto)]
+
 ghost use Rattle.std.specs.Prelude.{◌+◌, ◌≤◌, ◌<◌, [], ◌∷◌, ◌++◌, length};
 ghost use Rattle.words.specs.Texts.{decimal_in, decimal, Put};
 

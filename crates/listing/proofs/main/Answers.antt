@@ -7,7 +7,7 @@ use Rattle.astrephon.proofs.Texts.{written_fits}
 use Rattle.listing.proofs.main.Goals as goal
 
 pub slice_bounds-text-end : goal.slice_bounds-text-end
-slice_bounds-text-end c = let said = c.list_sheet-written.ensures in written_fits _ _ (ap written_says (sym c.written-1.given.1) ∙ said.0) said.1
+slice_bounds-text-end c = let said = c.list_sheet-written.ensures in written_fits _ _ (ap written_says (sym c.in-Bytes.is) ∙ said.fact_1) said.fact_2
 
 pub slice_bounds-write_all-end : goal.slice_bounds-write_all-end
-slice_bounds-write_all-end c = let said = c.list_sheet-written.ensures in sym (length-take-le _ _ (written_fits _ _ (ap written_says (sym c.written-1.given.1) ∙ said.0) said.1))
+slice_bounds-write_all-end c = let said = c.list_sheet-written.ensures in sym (length-take-le _ _ (written_fits _ _ (ap written_says (sym c.in-Bytes.is) ∙ said.fact_1) said.fact_2))

@@ -26,6 +26,6 @@ pub slice_bounds-put_reply-end-2 : goal.slice_bounds-put_reply-end-2
 slice_bounds-put_reply-end-2 c = sym (lent_length _ _ c.into-into.ensures c.requires)
 
 pub put_reply-requires : goal.put_reply-requires
-put_reply-requires c = 
+put_reply-requires c =
     let p = lent_room _ c.args.space.now c.into-into.ensures c.requires in
     record { fact_1 = whole (goal.at.put_reply-requires c).Else-not-is_whole; fact_2 = p.0; fact_3 = p.1.0; fact_4 = p.1.1 }

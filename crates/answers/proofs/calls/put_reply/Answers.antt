@@ -25,6 +25,6 @@ returns-in_default c =
 
 pub returns : goal.returns
 returns c = (
-      c.put_line.ensures.0 ∙ reply_told _ c.requires.fact_1 (copied (goal.at.returns c).After-reply_to-arg-1) c.reply_to.ensures _ c.in-Told.is,
-      c.put_line.ensures.1,
-    )
+  c.put_line.ensures.0 ∙ reply_told _ c.requires.fact_1 (copied (goal.at.returns c).After-reply_to-arg-1) c.reply_to.ensures _ c.in-Told.is,
+  c.put_line.ensures.1,
+)

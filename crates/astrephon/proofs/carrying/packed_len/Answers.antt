@@ -8,7 +8,7 @@ pub returns-then-refusal-ne0 : goal.returns-then-refusal-ne0
 returns-then-refusal-ne0 c = measured_closed _ _ _ _ c.open_window-opening.ensures c.if-refusal-ne0.true
 
 pub count-bytes-requires : goal.count-bytes-requires
-count-bytes-requires c = 
+count-bytes-requires c =
     let W = windowed _ _ _ _ c.open_window-opening.ensures c.if-refusal-ne0.false in
     record { fact_1 = W.opened.ok; fact_2 = W.forward }
 

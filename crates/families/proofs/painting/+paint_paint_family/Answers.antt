@@ -49,7 +49,7 @@ pub paint-returns : goal.paint-returns
 paint-returns t c = rw (inner_has _ _ _ _ c.if-count-eq0.false) (left_none c.loop-left.invariant (omega arith))
 
 -- in a turn of the loop: the segment is within the table
-paint-family-room :     (t : ℕ) (c : paint_family-In-loop-k t)
+paint-family-room : (t : ℕ) (c : paint_family-In-loop-k t)
     → c.loop-k.to ≤ length c.loop-k.table
 paint-family-room t c =
     turn_room c.args.f c.loop-k.invariant.0 c.requires.0 c.requires.1.0 c.loop-k-test.true

@@ -20,8 +20,8 @@ turned : (c : After-row_known-1) → let s = c.args in
     Turned s.owners.now s.period s.nexts.now c.loop-place.place c.if-owner-last.last c.if-owner-last.run c.if-owner-last.gap c.if-owner-last.nexts
 turned c =
     elim c.if-owner-last.branch [
-      then-owner-last w ↦ rw (w.nexts-is, w.last-is, w.run-is, w.gap-is) (filling_turn c.loop-place.invariant c.loop-place-test.true c.requires.fact_1 w.if-owner-last.true)
-    | else-owner-last w ↦ rw (w.nexts-is, w.last-is, w.run-is, w.gap-is) (filling_same c.loop-place.invariant w.if-owner-last.false)
+      | then-owner-last w ↦ rw (w.nexts-is, w.last-is, w.run-is, w.gap-is) (filling_turn c.loop-place.invariant c.loop-place-test.true c.requires.fact_1 w.if-owner-last.true)
+      | else-owner-last w ↦ rw (w.nexts-is, w.last-is, w.run-is, w.gap-is) (filling_same c.loop-place.invariant w.if-owner-last.false)
     ]
 
 fits : (c : After-row_known-1) →

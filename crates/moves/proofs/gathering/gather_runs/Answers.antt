@@ -10,7 +10,7 @@ use Rattle.moves.proofs.Packing.{Packing, packing_start, packing_end, gather_fit
 use Rattle.moves.proofs.gathering.gather_runs.Goals as goal
 
 pub begin-walk-requires : goal.begin-walk-requires
-begin-walk-requires c = 
+begin-walk-requires c =
     let p = (begin_asks c.requires.fact_1) in
     record { fact_1 = p.0; fact_2 = p.1.0; fact_3 = p.1.1 }
 
@@ -18,7 +18,7 @@ pub loop-walk-init : goal.loop-walk-init
 loop-walk-init c = packing_start c.begin-walk.ensures _ _ _ c.requires.fact_1.buffers.packed
 
 pub run_here-run-requires : goal.run_here-run-requires
-run_here-run-requires c = 
+run_here-run-requires c =
     let p = (run_asks c.requires.fact_1 c.requires.fact_2 c.loop-walk.invariant.stands c.loop-walk-test.true) in
     record { fact_1 = p.0; fact_2 = p.1.0; fact_3 = p.1.1 }
 

@@ -11,7 +11,7 @@ pub overflow_sub-bytes : goal.overflow_sub-bytes
 overflow_sub-bytes c = (windowed _ _ _ _ c.open_window-opening.ensures c.if-refusal-ne0.false).forward
 
 pub count-selected-requires : goal.count-selected-requires
-count-selected-requires c = 
+count-selected-requires c =
     let W = windowed _ _ _ _ c.open_window-opening.ensures c.if-refusal-ne0.false in
     record { fact_1 = W.opened.ok; fact_2 = W.forward }
 

@@ -36,7 +36,7 @@ chosen : (only owner : ℕ) → (only ≡ 0) ⊎ ((only ≡ 0 → ⊥) × (only 
 chosen only owner = ⊎_elim inl (λ own. inr own.1)
 
 pub begin-walk-requires : goal.begin-walk-requires
-begin-walk-requires c = 
+begin-walk-requires c =
     let p = (begin_asks c.requires.fact_1) in
     record { fact_1 = p.0; fact_2 = p.1.0; fact_3 = p.1.1 }
 
@@ -45,7 +45,7 @@ loop-walk-init c =
     renewing_start c.begin-walk.ensures _ _ _ _ c.requires.fact_1.buffers.packed
 
 pub run_here-run-requires : goal.run_here-run-requires
-run_here-run-requires c = 
+run_here-run-requires c =
     let p = (run_asks c.requires.fact_1 c.requires.fact_2 c.loop-walk.invariant.packing.stands c.loop-walk-test.true) in
     record { fact_1 = p.0; fact_2 = p.1.0; fact_3 = p.1.1 }
 
@@ -65,7 +65,7 @@ pub beyond-step-requires : goal.beyond-step-requires
 beyond-step-requires c = beyond_asked (here (goal.at.beyond-step-requires c).After-piece_at-piece)
 
 pub further-walk-requires : goal.further-walk-requires
-further-walk-requires c = 
+further-walk-requires c =
     let p = (further_asks c.requires.fact_1 c.requires.fact_2 c.loop-walk.invariant.packing.stands c.loop-walk-test.true _ c.run_here-run.ensures) in
     record { fact_1 = p.0; fact_2 = p.1 }
 
@@ -73,9 +73,9 @@ pub loop-walk-smaller : goal.loop-walk-smaller
 loop-walk-smaller c =
     let A = here (goal.at.loop-walk-smaller c).After-piece_at-piece in
     let least : c.piece_at-piece.result.len ≤ c.if-only-eq0.step = elim c.if-only-eq0.branch [
-      then-only-eq0+then-only-ne0 w ↦ rw w.step-is (far_least A _ (w.beyond-step.ensures.fact_1, w.beyond-step.ensures.fact_2))
-    | then-only-eq0+else-only-ne0 w ↦ omega arith
-    | else-only-eq0+else-only-piece w ↦ omega arith
+      | then-only-eq0+then-only-ne0 w ↦ rw w.step-is (far_least A _ (w.beyond-step.ensures.fact_1, w.beyond-step.ensures.fact_2))
+      | then-only-eq0+else-only-ne0 w ↦ omega arith
+      | else-only-eq0+else-only-piece w ↦ omega arith
     ] in
     omega (arith, piece_forward A _ c.further-walk.ensures least, A.inside, A.long)
 
@@ -84,13 +84,13 @@ loop-walk-preserved c =
     let A = here (goal.at.loop-walk-preserved c).After-piece_at-piece in
     let on = c.further-walk.ensures in
     elim c.if-only-eq0.branch [
-      then-only-eq0+then-only-ne0 w ↦
-        let own = chosen _ _ w.then-only-eq0.either in
-        let far = far_over A _ (w.beyond-step.ensures.fact_1, w.beyond-step.ensures.fact_2) w.if-only-ne0.true own in
-        piece_copied A _ on (rw w.step-is far) own _ w.source_of-source.ensures _ (w.part-is ∙ w.copy_run.ensures)
-    | then-only-eq0+else-only-ne0 w ↦
-        piece_copied A _ on (step_just _ _ _ w.step-is) (chosen _ _ w.then-only-eq0.either) _ w.source_of-source.ensures _ (w.part-is ∙ w.copy_run.ensures)
-    | else-only-eq0+else-only-piece w ↦ piece_passed A _ on (step_just _ _ _ w.step-is) w.if-only-eq0.false w.if-only-piece.false _ w.part-is
+      | then-only-eq0+then-only-ne0 w ↦
+          let own = chosen _ _ w.then-only-eq0.either in
+          let far = far_over A _ (w.beyond-step.ensures.fact_1, w.beyond-step.ensures.fact_2) w.if-only-ne0.true own in
+          piece_copied A _ on (rw w.step-is far) own _ w.source_of-source.ensures _ (w.part-is ∙ w.copy_run.ensures)
+      | then-only-eq0+else-only-ne0 w ↦
+          piece_copied A _ on (step_just _ _ _ w.step-is) (chosen _ _ w.then-only-eq0.either) _ w.source_of-source.ensures _ (w.part-is ∙ w.copy_run.ensures)
+      | else-only-eq0+else-only-piece w ↦ piece_passed A _ on (step_just _ _ _ w.step-is) w.if-only-eq0.false w.if-only-piece.false _ w.part-is
     ]
 
 pub returns : goal.returns

@@ -8,7 +8,7 @@ pub loop-x-init : goal.loop-x-init
 loop-x-init c = passing_start _ c.requires
 
 pub in_both-requires : goal.in_both-requires
-in_both-requires c = 
+in_both-requires c =
     let p = (passing_marks c.loop-x.invariant) in
     record { fact_1 = p.0; fact_2 = p.1 }
 
@@ -16,12 +16,12 @@ pub returns-then-in_both-wanted : goal.returns-then-in_both-wanted
 returns-then-in_both-wanted c = passing_stop c.loop-x.invariant _ c.in_both.ensures c.if-in_both-wanted.true
 
 pub next_side-one-requires : goal.next_side-one-requires
-next_side-one-requires c = 
+next_side-one-requires c =
     let P = c.loop-x.invariant in
     record { fact_1 = (passing_marks P).0; fact_2 = omega (arith, passing_ranks P) }
 
 pub next_side-two-requires : goal.next_side-two-requires
-next_side-two-requires c = 
+next_side-two-requires c =
     let P = c.loop-x.invariant in
     record { fact_1 = (passing_marks P).1; fact_2 = omega (arith, passing_ranks P) }
 

@@ -42,7 +42,7 @@ pub le32_at-displacement-requires : goal.le32_at-displacement-requires
 le32_at-displacement-requires c = omega (arith, header_inside _ (sheet-at c).header)
 
 pub decoded-layout-requires : goal.decoded-layout-requires
-decoded-layout-requires c = 
+decoded-layout-requires c =
     let S = sheet-at (goal.at.decoded-layout-requires c).Else-all-ne0 in
     record { fact_1 = search rules; fact_2 = row_used _ S.most S.room _ _ (got-at (goal.at.decoded-layout-requires c).Else-all-ne0).progress (written_at (goal.at.decoded-layout-requires c).Else-all-ne0) }
 
@@ -50,7 +50,7 @@ pub overflow_cast-all : goal.overflow_cast-all
 overflow_cast-all c = omega (arith, end_is _ _ (got-at (goal.at.overflow_cast-all c).Else-all-ne0).progress, ends_most _ (sheet-at (goal.at.overflow_cast-all c).Else-all-ne0).each)
 
 pub judge-requires : goal.judge-requires
-judge-requires c = 
+judge-requires c =
     let S = sheet-at (goal.at.judge-requires c).Else-all-ne0 in
     let e = end_is _ _ (got-at (goal.at.judge-requires c).Else-all-ne0).progress in
     let Fs = (got-at (goal.at.judge-requires c).Else-all-ne0).elements in

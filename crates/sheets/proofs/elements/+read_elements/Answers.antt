@@ -113,7 +113,7 @@ pub overflow_cast-span : goal.overflow_cast-span
 overflow_cast-span t c = let T = taken_at t c in omega (arith, T.span, T.fits)
 
 pub add_element-requires : goal.add_element-requires
-add_element-requires t c = 
+add_element-requires t c =
     let T = taken_at t c in
     record { fact_1 = omega (arith, elements_few t (goal.at.add_element-requires t c).Start); fact_2 = omega (arith, T.span, T.fits, families-small t (goal.at.add_element-requires t c).Start) }
 

@@ -29,7 +29,7 @@ got-at : (c : After-read_elements-all) → c.read_elements-all.result.number ≡
 got-at c fine = progress_got _ _ _ (elements_numbered _ _ _ _) (elements-step c).0 fine
 
 pub returns-then-fault-ne0 : goal.returns-then-fault-ne0
-returns-then-fault-ne0 c = 
+returns-then-fault-ne0 c =
     let p = (refused_on_all _ _ _ (rw c.stop.ensures (header_refused _ _ (fault-at (goal.at.returns-then-fault-ne0 c).After-record_fault-fault) c.if-fault-ne0.true)) _ _) in
     record { fact_1 = p.0; fact_2 = p.1 }
 
@@ -44,14 +44,14 @@ read_elements-all-requires c =
 
 pub returns-then-all-ne0 : goal.returns-then-all-ne0
 unfolding start
-returns-then-all-ne0 c = 
+returns-then-all-ne0 c =
     let p = (let refused = progress_refused _ _ _ refl (elements-step (goal.at.returns-then-all-ne0 c).After-read_elements-all).0 c.if-all-ne0.true in
     refused_on_all _ _ _ (elements_refused _ _ (fault-at (goal.at.returns-then-all-ne0 c).After-record_fault-fault) c.if-fault-ne0.false _ _ refused) _ _) in
     record { fact_1 = p.0; fact_2 = p.1 }
 
 pub returns-then-place-sheet : goal.returns-then-place-sheet
 unfolding start
-returns-then-place-sheet c = 
+returns-then-place-sheet c =
     let p = (let G = got-at (goal.at.returns-then-place-sheet c).After-read_elements-all c.if-all-ne0.false in
     let trailing = trailing_refused _ _ (fault-at (goal.at.returns-then-place-sheet c).After-record_fault-fault) c.if-fault-ne0.false G.elements G.is (omega (arith, G.place)) in
     refused_on_all _ _ _ (rw (c.stop-then-place-sheet.ensures, G.place) trailing) _ _) in
@@ -59,7 +59,7 @@ returns-then-place-sheet c =
 
 pub returns : goal.returns
 unfolding start
-returns c = 
+returns c =
     let G = got-at (goal.at.returns c).After-read_elements-all c.if-all-ne0.false in
     let all = all_read _ _ (fault-at (goal.at.returns c).After-record_fault-fault) c.if-fault-ne0.false G.elements G.is (omega (arith, G.place)) in
     let step = rw G.is at (elements-step (goal.at.returns c).After-read_elements-all) in

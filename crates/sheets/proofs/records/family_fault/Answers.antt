@@ -20,7 +20,7 @@ pub returns-then-bad_segment : goal.returns-then-bad_segment
 returns-then-bad_segment c = family_segment _ _ _ (omega arith) (sym c.bad_segment.ensures ∙ c.if-bad_segment.true)
 
 pub last_byte-last-requires : goal.last_byte-last-requires
-last_byte-last-requires c = 
+last_byte-last-requires c =
     let s = segment_taken c.args.f (fine c) in
     record { fact_1 = s.0; fact_2 = s.1 }
 

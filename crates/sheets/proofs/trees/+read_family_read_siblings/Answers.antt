@@ -126,7 +126,7 @@ pub read_family-put_family-requires : goal.read_family-put_family-requires
 read_family-put_family-requires t c = length-take-le 6 (kids-row t (goal.at.read_family-put_family-requires t c).After-read_siblings-kids) (kids-row-room t (goal.at.read_family-put_family-requires t c).After-read_siblings-kids)
 
 pub read_family-last_byte-requires : goal.read_family-last_byte-requires
-read_family-last_byte-requires t c = 
+read_family-last_byte-requires t c =
     let T = taken_at t (goal.at.read_family-last_byte-requires t c).Else-fault-ne0 in
     record { fact_1 = rw c.family_record-f.ensures.fact_1 T.fits.some; fact_2 = rw c.family_record-f.ensures.fact_1 T.fits.forward }
 

@@ -29,7 +29,7 @@ slice_bounds-fill_part-end c =
     omega (arith, fits, parted_long (targets_once c.requires.fact_1) c.loop-j.invariant)
 
 pub fill_part-requires : goal.fill_part-requires
-fill_part-requires c = 
+fill_part-requires c =
     let A =
     parting_asks c.requires.fact_1 c.loop-j.invariant c.loop-j-test.true c.requires.fact_3.most _ c.share_at-part.ensures _ c.selection_of-s.ensures
     c.requires.fact_4 in

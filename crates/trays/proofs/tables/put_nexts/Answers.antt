@@ -17,7 +17,7 @@ pub loop-e-init : goal.loop-e-init
 loop-e-init c = firsts_start _ _ _ c.requires.fact_3
 
 pub selection_of-s-requires : goal.selection_of-s-requires
-selection_of-s-requires c = 
+selection_of-s-requires c =
     let p = (chosen_asks c.requires.fact_2 c.requires.fact_1 c.loop-e-test.true) in
     record { fact_1 = p.0; fact_2 = p.1.0; fact_3 = p.1.1 }
 
