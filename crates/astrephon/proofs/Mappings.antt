@@ -5,7 +5,7 @@ use mathlib.Core.Logic.{⊎_elim}
 use mathlib.Core.List.{List, [], ◌∷◌}
 use Prim.Native.Nat.{ℕ, ◌≤◌, ◌<◌}
 use native.Mathlib.Omega.{arith}
-use borrow.Author.Tests.{le-leb, lt-leb, not-false}
+use borrow.Author.Tests.{le-leb, lt-leb}
 use Rattle.counting.specs.Count.{count_below}
 use Rattle.counting.proofs.Counts.{count_le}
 use Rattle.counting.proofs.Cases.{lt_or_le}

@@ -1,6 +1,5 @@
 use mathlib.Core.Path.{◌≡◌}
 use lib.ListN.{length}
-use borrow.Author.Rules.{rules}
 use Rattle.answers.proofs.answer_all.Given as goal
 
 abbrev pub invariant-loop-turns : goal.invariant-loop-turns

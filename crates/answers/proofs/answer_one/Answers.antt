@@ -2,7 +2,6 @@
 use mathlib.Core.Path.{sym}
 use lib.Seq.{length-take-le}
 use Rattle.answers.proofs.Ends.{front_room}
-use borrow.Author.Rules.{rules}
 use Rattle.answers.proofs.answer_one.Goals as goal
 
 pub slice_bounds-answer_frame-end-2 : goal.slice_bounds-answer_frame-end-2

@@ -1,7 +1,7 @@
 -- `copy_bytes` meets its contract. The loop's invariant: the first i bytes are copied. Each store is a chunk of one. Assumes nothing.
-use Prim.Native.Nat.{◌+◌, ◌-◌}
+use Prim.Native.Nat.{◌+◌}
 use native.Mathlib.Omega.{arith}
-use Rattle.copies.proofs.Chunks.{one, SoFar, none_yet, more, all}
+use Rattle.copies.proofs.Chunks.{one, none_yet, more, all}
 use Rattle.copies.proofs.copy_bytes.Goals as goal
 
 pub loop-i-init : goal.loop-i-init

@@ -1,6 +1,5 @@
-use Prim.Native.Nat.{◌+◌, ◌-◌}
-use native.Mathlib.Omega.{arith}
-use Rattle.copies.proofs.Chunks.{one, SoFar, none_yet, more, all}
+use Prim.Native.Nat.{◌-◌}
+use Rattle.copies.proofs.Chunks.{SoFar}
 use Rattle.copies.proofs.copy_bytes.Given as goal
 
 abbrev pub invariant-loop-i : goal.invariant-loop-i

@@ -1,6 +1,5 @@
 -- `copy_chunk` meets its contract: what is held between the two copies is the chunk. Assumes nothing.
 use native.Mathlib.Omega.{arith}
-use borrow.Author.Rules.{rules}
 use Rattle.copies.proofs.Chunks.{held}
 use Rattle.copies.proofs.copy_chunk.Goals as goal
 

@@ -1,7 +1,6 @@
 -- `copy_ends` meets its contract: the last chunk starts among the first's bytes or right after them. Assumes nothing.
 use Prim.Native.Nat.{◌-◌}
 use native.Mathlib.Omega.{arith}
-use borrow.Author.Rules.{rules}
 use Rattle.copies.proofs.Chunks.{chunk}
 use Rattle.copies.proofs.copy_ends.Goals as goal
 

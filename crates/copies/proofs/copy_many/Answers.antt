@@ -1,8 +1,7 @@
 -- `copy_many` meets its contract. The loop's invariant: the first `done` bytes are copied. The last chunk starts among them. Assumes nothing.
-use mathlib.Core.Path.{◌∙◌}
 use Prim.Native.Nat.{◌-◌}
 use native.Mathlib.Omega.{arith}
-use Rattle.copies.proofs.Chunks.{chunk, SoFar, none_yet, more}
+use Rattle.copies.proofs.Chunks.{chunk, none_yet, more}
 use Rattle.copies.proofs.copy_many.Goals as goal
 
 pub loop-done-init : goal.loop-done-init

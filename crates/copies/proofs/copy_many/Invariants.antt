@@ -1,7 +1,5 @@
-use mathlib.Core.Path.{◌∙◌}
 use Prim.Native.Nat.{◌-◌}
-use native.Mathlib.Omega.{arith}
-use Rattle.copies.proofs.Chunks.{chunk, SoFar, none_yet, more}
+use Rattle.copies.proofs.Chunks.{SoFar}
 use Rattle.copies.proofs.copy_many.Given as goal
 
 abbrev pub invariant-loop-done : goal.invariant-loop-done

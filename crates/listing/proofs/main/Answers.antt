@@ -1,7 +1,6 @@
 -- `main` is safe and ends: what the call says it wrote fits the buffer. Assumes nothing.
 use mathlib.Core.Path.{sym, ap, ◌∙◌}
 use lib.Seq.{length-take-le}
-use borrow.Author.Rules.{rules}
 use Rattle.astrephon.specs.Says.{written_says}
 use Rattle.astrephon.proofs.Texts.{written_fits}
 use Rattle.listing.proofs.main.Goals as goal

@@ -1,7 +1,6 @@
 -- `of_carried` meets its contract. Assumes nothing.
 use Rattle.astrephon.specs.Says.{carried_says}
 use Rattle.said.proofs.Telling.{telling}
-use borrow.Author.Rules.{rules}
 use Rattle.said.proofs.of_carried.Goals as goal
 
 pub returns-in-Done : goal.returns-in-Done

@@ -1,7 +1,6 @@
 -- `of_checked` meets its contract. Assumes nothing.
 use Rattle.astrephon.specs.Says.{checked_says}
 use Rattle.said.proofs.Telling.{telling}
-use borrow.Author.Rules.{rules}
 use Rattle.said.proofs.of_checked.Goals as goal
 
 pub returns-in-Accepted : goal.returns-in-Accepted

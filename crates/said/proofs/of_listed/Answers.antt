@@ -1,7 +1,6 @@
 -- `of_listed` meets its contract. Assumes nothing.
 use Rattle.astrephon.specs.Says.{listed_says}
 use Rattle.said.proofs.Telling.{telling}
-use borrow.Author.Rules.{rules}
 use Rattle.said.proofs.of_listed.Goals as goal
 
 pub returns-in-Runs : goal.returns-in-Runs

@@ -1,7 +1,6 @@
 -- `of_located` meets its contract. Assumes nothing.
 use Rattle.astrephon.specs.Says.{located_says}
 use Rattle.said.proofs.Telling.{telling}
-use borrow.Author.Rules.{rules}
 use Rattle.said.proofs.of_located.Goals as goal
 
 pub returns-in-At : goal.returns-in-At

@@ -1,7 +1,6 @@
 -- `of_mapped` meets its contract. Assumes nothing.
 use Rattle.astrephon.specs.Says.{mapped_says}
 use Rattle.said.proofs.Telling.{telling}
-use borrow.Author.Rules.{rules}
 use Rattle.said.proofs.of_mapped.Goals as goal
 
 pub returns-in-At : goal.returns-in-At

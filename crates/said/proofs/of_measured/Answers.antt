@@ -1,7 +1,6 @@
 -- `of_measured` meets its contract. Assumes nothing.
 use Rattle.astrephon.specs.Says.{measured_says}
 use Rattle.said.proofs.Telling.{telling}
-use borrow.Author.Rules.{rules}
 use Rattle.said.proofs.of_measured.Goals as goal
 
 pub returns-in-Bytes : goal.returns-in-Bytes

@@ -1,7 +1,6 @@
 -- `of_spanned` meets its contract. Assumes nothing.
 use Rattle.astrephon.specs.Says.{spanned_says}
 use Rattle.said.proofs.Telling.{telling}
-use borrow.Author.Rules.{rules}
 use Rattle.said.proofs.of_spanned.Goals as goal
 
 pub returns-in-Range : goal.returns-in-Range

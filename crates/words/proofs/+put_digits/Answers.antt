@@ -1,7 +1,5 @@
 -- `put_digits` meets its contract. The measure: how many digits it may have. Assumes nothing.
-use Prim.Native.Nat.{ℕ, ◌<◌}
 use native.Mathlib.Omega.{arith}
-use borrow.Author.Rules.{rules}
 use Rattle.words.proofs.Puts.{put_nothing, put_digit, put_last}
 use Rattle.words.proofs.+put_digits.Goals as goal
 

@@ -1,6 +1,5 @@
 -- `put` meets its contract. Assumes nothing.
 use native.Mathlib.Omega.{arith}
-use borrow.Author.Rules.{rules}
 use Rattle.words.proofs.Puts.{put_word}
 use Rattle.words.proofs.put.Goals as goal
 

@@ -1,5 +1,4 @@
 -- `put_both` meets its contract. Assumes nothing.
-use borrow.Author.Rules.{rules}
 use Rattle.words.proofs.Puts.{◌then◌}
 use Rattle.words.proofs.put_both.Goals as goal
 

@@ -1,6 +1,5 @@
 -- `put_digit` meets its contract. Assumes nothing.
 use native.Mathlib.Omega.{arith}
-use borrow.Author.Rules.{rules}
 use Rattle.words.proofs.Puts.{put_byte}
 use Rattle.words.proofs.put_digit.Goals as goal
 

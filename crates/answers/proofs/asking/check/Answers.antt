@@ -3,7 +3,6 @@ use mathlib.Core.Path.{ap}
 use Rattle.astrephon.specs.Says.{checked_says}
 use Rattle.astrephon.specs.Check.{check_call}
 use Rattle.answers.proofs.Replies.{asked}
-use borrow.Author.Rules.{rules}
 use Rattle.answers.proofs.asking.check.Goals as goal
 
 pub returns : goal.returns

@@ -2,7 +2,6 @@
 use Rattle.astrephon.specs.Says.{mapped_says}
 use Rattle.astrephon.specs.Maps.{exact_call}
 use Rattle.answers.proofs.Replies.{asked}
-use borrow.Author.Rules.{rules}
 use Rattle.answers.proofs.asking.exact.Goals as goal
 
 pub returns : goal.returns

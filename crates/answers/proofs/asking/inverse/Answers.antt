@@ -2,7 +2,6 @@
 use Rattle.astrephon.specs.Says.{located_says}
 use Rattle.astrephon.specs.Maps.{inverse_call}
 use Rattle.answers.proofs.Replies.{asked}
-use borrow.Author.Rules.{rules}
 use Rattle.answers.proofs.asking.inverse.Goals as goal
 
 pub returns : goal.returns

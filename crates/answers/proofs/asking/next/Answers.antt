@@ -2,7 +2,6 @@
 use Rattle.astrephon.specs.Says.{mapped_says}
 use Rattle.astrephon.specs.Maps.{next_call}
 use Rattle.answers.proofs.Replies.{asked}
-use borrow.Author.Rules.{rules}
 use Rattle.answers.proofs.asking.next.Goals as goal
 
 pub returns : goal.returns

@@ -2,7 +2,6 @@
 use Rattle.astrephon.specs.Says.{measured_says}
 use Rattle.astrephon.specs.Carries.{packed_length_call}
 use Rattle.answers.proofs.Replies.{asked}
-use borrow.Author.Rules.{rules}
 use Rattle.answers.proofs.asking.packed_length.Goals as goal
 
 pub returns : goal.returns

@@ -4,7 +4,6 @@ use native.Mathlib.Omega.{arith}
 use Rattle.answers.specs.Replies.{asked_of}
 use Rattle.answers.proofs.Replies.{asked_told, asked_unknown}
 use Rattle.answers.proofs.Ends.{first_fits}
-use borrow.Author.Rules.{rules}
 use Rattle.answers.proofs.asking.reply.Goals as goal
 
 pub bounds-frame-0 : goal.bounds-frame-0

@@ -2,7 +2,6 @@
 use Rattle.astrephon.specs.Says.{spanned_says}
 use Rattle.astrephon.specs.Maps.{span_call}
 use Rattle.answers.proofs.Replies.{asked}
-use borrow.Author.Rules.{rules}
 use Rattle.answers.proofs.asking.span.Goals as goal
 
 pub returns : goal.returns

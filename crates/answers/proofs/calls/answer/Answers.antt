@@ -1,11 +1,10 @@
 -- `answer` meets its contract. Assumes nothing.
 use mathlib.Core.Path.{refl, sym, ◌∙◌}
 use native.Mathlib.Omega.{arith}
-use borrow.Author.Tests.{eqb-true, not-true, not-false}
+use borrow.Author.Tests.{eqb-true}
 use Rattle.answers.specs.Frames.{Whole}
 use Rattle.answers.proofs.Replies.{reply_cut}
 use Rattle.answers.proofs.Ends.{into_room, lent_length, lent_room}
-use borrow.Author.Rules.{rules}
 use Rattle.answers.proofs.calls.answer.Goals as goal
 use Rattle.answers.proofs.calls.answer.Goals.{Else-not-is_whole}
 

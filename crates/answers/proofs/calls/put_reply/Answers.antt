@@ -5,7 +5,6 @@ use lib.ListN.{length}
 use Rattle.answers.specs.Frames.{into_of}
 use Rattle.answers.proofs.Replies.{reply_unknown, reply_told}
 use Rattle.answers.proofs.Texts.{paste_over}
-use borrow.Author.Rules.{rules}
 use Rattle.answers.proofs.calls.put_reply.Goals as goal
 use Rattle.answers.proofs.calls.put_reply.Goals.{After-reply_to-arg-1}
 

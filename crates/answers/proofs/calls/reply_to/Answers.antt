@@ -4,7 +4,6 @@ use native.Mathlib.Omega.{arith}
 use Rattle.answers.specs.Replies.{reply_to}
 use Rattle.answers.proofs.Replies.{replied_told, replied_asked}
 use Rattle.answers.proofs.Ends.{first_fits}
-use borrow.Author.Rules.{rules}
 use Rattle.answers.proofs.calls.reply_to.Goals as goal
 
 pub bounds-frame-0 : goal.bounds-frame-0

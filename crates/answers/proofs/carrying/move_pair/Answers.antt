@@ -2,7 +2,6 @@
 use Rattle.astrephon.specs.Says.{carried_says}
 use Rattle.astrephon.specs.Moves.{pair_move_call}
 use Rattle.answers.proofs.Replies.{told}
-use borrow.Author.Rules.{rules}
 use Rattle.answers.proofs.carrying.move_pair.Goals as goal
 
 pub returns : goal.returns

@@ -2,7 +2,6 @@
 use Rattle.astrephon.specs.Says.{carried_says}
 use Rattle.astrephon.specs.Carries.{scatter_call}
 use Rattle.answers.proofs.Replies.{told}
-use borrow.Author.Rules.{rules}
 use Rattle.answers.proofs.carrying.scatter.Goals as goal
 
 pub returns : goal.returns

@@ -3,7 +3,6 @@ use Prim.Native.Nat.{◌+◌, ◌≤◌}
 use native.Mathlib.Omega.{arith}
 use lib.ListN.{length}
 use Rattle.answers.proofs.Ends.{blob_grows, blob_place, blob_lent}
-use borrow.Author.Rules.{rules}
 use Rattle.answers.proofs.frames.blob.Goals as goal
 use Rattle.answers.proofs.frames.blob.Goals.{After-blob_end-end}
 

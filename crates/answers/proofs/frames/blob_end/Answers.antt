@@ -1,7 +1,6 @@
 -- `blob_end` meets its contract. Assumes nothing.
 use native.Mathlib.Omega.{arith}
 use Rattle.answers.specs.Frames.{blob_end}
-use borrow.Author.Rules.{rules}
 use Rattle.answers.proofs.frames.blob_end.Goals as goal
 
 pub returns-then-size-at : goal.returns-then-size-at

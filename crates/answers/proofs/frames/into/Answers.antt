@@ -1,7 +1,6 @@
 -- `into` meets its contract. Assumes nothing.
 use mathlib.Core.Path.{◌∙◌}
 use Rattle.answers.proofs.Ends.{begin_fits, begin_blob, fourth_fits}
-use borrow.Author.Rules.{rules}
 use Rattle.answers.proofs.frames.into.Goals as goal
 
 pub blob-requires : goal.blob-requires

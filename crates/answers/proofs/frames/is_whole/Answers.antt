@@ -1,6 +1,5 @@
 -- `is_whole` meets its contract. Assumes nothing.
 use Rattle.answers.proofs.Ends.{whole_test}
-use borrow.Author.Rules.{rules}
 use Rattle.answers.proofs.frames.is_whole.Goals as goal
 
 pub returns : goal.returns

@@ -1,7 +1,6 @@
 -- `number_at` meets its contract. Assumes nothing.
 use native.Mathlib.Omega.{arith}
 use Rattle.answers.proofs.Ends.{first_fits}
-use borrow.Author.Rules.{rules}
 use Rattle.answers.proofs.frames.number_at.Goals as goal
 
 pub le64_at-requires : goal.le64_at-requires

@@ -1,6 +1,5 @@
 -- `second_end` meets its contract. Assumes nothing.
 use Rattle.answers.proofs.Ends.{cut_next}
-use borrow.Author.Rules.{rules}
 use Rattle.answers.proofs.frames.second_end.Goals as goal
 
 pub returns : goal.returns

@@ -1,6 +1,5 @@
 -- `sheet1` meets its contract. Assumes nothing.
 use Rattle.answers.proofs.Ends.{first_fits}
-use borrow.Author.Rules.{rules}
 use Rattle.answers.proofs.frames.sheet1.Goals as goal
 
 pub blob-requires : goal.blob-requires

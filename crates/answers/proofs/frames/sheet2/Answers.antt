@@ -1,7 +1,6 @@
 -- `sheet2` meets its contract. Assumes nothing.
 use mathlib.Core.Path.{◌∙◌}
 use Rattle.answers.proofs.Ends.{begin_fits, begin_blob, second_fits}
-use borrow.Author.Rules.{rules}
 use Rattle.answers.proofs.frames.sheet2.Goals as goal
 
 pub blob-requires : goal.blob-requires

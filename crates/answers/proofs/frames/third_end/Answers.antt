@@ -1,6 +1,5 @@
 -- `third_end` meets its contract. Assumes nothing.
 use Rattle.answers.proofs.Ends.{cut_next}
-use borrow.Author.Rules.{rules}
 use Rattle.answers.proofs.frames.third_end.Goals as goal
 
 pub returns : goal.returns

@@ -1,7 +1,6 @@
 -- `hex_digit` meets its contract. Assumes nothing.
 use mathlib.Core.Path.{refl}
 use borrow.Author.Tests.{lt-ltb, le-ltb}
-use borrow.Author.Rules.{rules}
 use Rattle.answers.proofs.lines.hex_digit.Goals as goal
 
 pub returns-then-d-lt10 : goal.returns-then-d-lt10

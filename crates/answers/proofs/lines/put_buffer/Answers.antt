@@ -1,7 +1,6 @@
 -- `put_buffer` meets its contract. Assumes nothing.
 use native.Mathlib.Omega.{arith}
 use Rattle.answers.proofs.Hexes.{put_dash, put_full}
-use borrow.Author.Rules.{rules}
 use Rattle.answers.proofs.lines.put_buffer.Goals as goal
 
 pub returns-then-bytes-eq0 : goal.returns-then-bytes-eq0

@@ -1,6 +1,5 @@
 -- `put_field` meets its contract. Assumes nothing.
 use native.Mathlib.Omega.{arith}
-use borrow.Author.Rules.{rules}
 use Rattle.answers.proofs.Fields.{put_field}
 use Rattle.answers.proofs.lines.put_field.Goals as goal
 

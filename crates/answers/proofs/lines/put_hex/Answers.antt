@@ -1,8 +1,8 @@
 -- `put_hex` meets its contract: after i turns, i bytes are put. Assumes nothing.
-use Prim.Native.Nat.{◌+◌, ◌-◌, ◌<◌}
+use Prim.Native.Nat.{◌+◌, ◌<◌}
 use native.Mathlib.Omega.{arith}
 use lib.ListN.{length, length-set}
-use Rattle.answers.proofs.Hexes.{Spelled, spelled_none, spelled_room, spelled_more, spelled_all}
+use Rattle.answers.proofs.Hexes.{spelled_none, spelled_room, spelled_more, spelled_all}
 use Rattle.answers.proofs.lines.put_hex.Goals as goal
 use Rattle.answers.proofs.lines.put_hex.Goals.{After-hex_digit}
 

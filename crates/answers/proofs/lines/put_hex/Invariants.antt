@@ -1,7 +1,6 @@
-use Prim.Native.Nat.{◌+◌, ◌-◌, ◌<◌}
-use native.Mathlib.Omega.{arith}
-use lib.ListN.{length, length-set}
-use Rattle.answers.proofs.Hexes.{Spelled, spelled_none, spelled_room, spelled_more, spelled_all}
+use Prim.Native.Nat.{◌-◌}
+use lib.ListN.{length}
+use Rattle.answers.proofs.Hexes.{Spelled}
 use Rattle.answers.proofs.lines.put_hex.Given as goal
 
 abbrev pub invariant-loop-i : goal.invariant-loop-i

@@ -1,7 +1,6 @@
 -- `put_line` meets its contract. Assumes nothing.
 use native.Mathlib.Omega.{arith}
-use Rattle.answers.proofs.Fields.{line_is, line_kept}
-use borrow.Author.Rules.{rules}
+use Rattle.answers.proofs.Fields.{line_is}
 use Rattle.answers.proofs.lines.put_line.Goals as goal
 
 pub returns : goal.returns

@@ -1,6 +1,5 @@
 -- `put_numbers` meets its contract. Assumes nothing.
 use Rattle.answers.proofs.Fields.{put_fields}
-use borrow.Author.Rules.{rules}
 use Rattle.answers.proofs.lines.put_numbers.Goals as goal
 
 pub returns : goal.returns

@@ -1,7 +1,6 @@
 -- `le64_at` meets its contract. Assumes nothing.
 use native.Mathlib.Omega.{arith}
 use Rattle.answers.specs.Numbers.{le64}
-use borrow.Author.Rules.{rules}
 use Rattle.answers.proofs.numbers.le64_at.Goals as goal
 
 pub returns : goal.returns

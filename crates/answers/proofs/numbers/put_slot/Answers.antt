@@ -1,7 +1,6 @@
 -- `put_slot` meets its contract: after k turns, k bytes are put. Assumes nothing.
-use Prim.Native.Nat.{◌-◌}
 use native.Mathlib.Omega.{arith}
-use Rattle.answers.proofs.Slots.{Lowered, lowered_none, lowered_length, lowered_more, lowered_all}
+use Rattle.answers.proofs.Slots.{lowered_none, lowered_length, lowered_more, lowered_all}
 use Rattle.answers.proofs.numbers.put_slot.Goals as goal
 
 pub loop-k-init : goal.loop-k-init

@@ -1,6 +1,5 @@
 use Prim.Native.Nat.{◌-◌}
-use native.Mathlib.Omega.{arith}
-use Rattle.answers.proofs.Slots.{Lowered, lowered_none, lowered_length, lowered_more, lowered_all}
+use Rattle.answers.proofs.Slots.{Lowered}
 use Rattle.answers.proofs.numbers.put_slot.Given as goal
 
 abbrev pub invariant-loop-k : goal.invariant-loop-k

@@ -1,9 +1,8 @@
 -- `put_slots` meets its contract: after i turns, i slots are put back. Assumes nothing.
 use mathlib.Core.Path.{◌≡◌}
-use Prim.Native.Nat.{◌-◌}
 use native.Mathlib.Omega.{arith}
 use lib.ListN.{length}
-use Rattle.answers.proofs.Slots.{Returned, returned_none, returned_length, returned_more, returned_all}
+use Rattle.answers.proofs.Slots.{returned_none, returned_length, returned_more, returned_all}
 use Rattle.answers.proofs.numbers.put_slots.Goals as goal
 use Rattle.answers.proofs.numbers.put_slots.Goals.{At-loop-i}
 

@@ -1,8 +1,6 @@
-use mathlib.Core.Path.{◌≡◌}
 use Prim.Native.Nat.{◌-◌}
-use native.Mathlib.Omega.{arith}
 use lib.ListN.{length}
-use Rattle.answers.proofs.Slots.{Returned, returned_none, returned_length, returned_more, returned_all}
+use Rattle.answers.proofs.Slots.{Returned}
 use Rattle.answers.proofs.numbers.put_slots.Given as goal
 
 abbrev pub invariant-loop-i : goal.invariant-loop-i

@@ -1,8 +1,6 @@
 -- `take_slots` meets its contract: after i turns, i slots are taken. Assumes nothing.
-use Prim.Native.Nat.{◌-◌}
 use native.Mathlib.Omega.{arith}
-use lib.ListN.{length}
-use Rattle.answers.proofs.Slots.{Taken, taken_none, taken_length, taken_more, taken_all}
+use Rattle.answers.proofs.Slots.{taken_none, taken_length, taken_more, taken_all}
 use Rattle.answers.proofs.numbers.take_slots.Goals as goal
 
 pub loop-i-init : goal.loop-i-init

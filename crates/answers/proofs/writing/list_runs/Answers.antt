@@ -1,7 +1,6 @@
 -- `list_runs` meets its contract. Assumes nothing.
 use Rattle.astrephon.specs.Says.{listed_says}
 use Rattle.answers.proofs.Replies.{shared_left}
-use borrow.Author.Rules.{rules}
 use Rattle.answers.proofs.writing.list_runs.Goals as goal
 
 pub returns : goal.returns

@@ -5,7 +5,6 @@ use Prim.Native.Nat.{ℕ}
 use Rattle.astrephon.specs.Says.{written_says}
 use Rattle.astrephon.specs.Texts.{listing_call}
 use Rattle.answers.proofs.Replies.{told}
-use borrow.Author.Rules.{rules}
 use Rattle.answers.proofs.writing.list_sheet.Goals as goal
 
 pub returns : goal.returns

@@ -3,7 +3,6 @@ use mathlib.Core.Path.{◌≡◌, sym}
 use Prim.Native.Nat.{◌/◌}
 use lib.ListN.{length, take}
 use Rattle.answers.proofs.Slots.{list_lent}
-use borrow.Author.Rules.{rules}
 use Rattle.answers.proofs.writing.shared_runs.Goals as goal
 use Rattle.answers.proofs.writing.shared_runs.Goals.{After-list-1}
 

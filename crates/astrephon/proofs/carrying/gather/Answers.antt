@@ -1,7 +1,6 @@
 -- `gather` meets its contract. Assumes nothing.
 use mathlib.Core.Path.{refl}
 use Rattle.astrephon.proofs.Transfers.{carry_asks, gathered_closed, gathered_done}
-use borrow.Author.Rules.{rules}
 use Rattle.astrephon.proofs.carrying.gather.Goals as goal
 
 pub returns-then-refusal-ne0 : goal.returns-then-refusal-ne0

@@ -1,7 +1,6 @@
 -- `packed_len` meets its contract. Assumes nothing.
 use Rattle.openings.proofs.Opens.{windowed}
 use Rattle.astrephon.proofs.Transfers.{measured_closed, measured_done}
-use borrow.Author.Rules.{rules}
 use Rattle.astrephon.proofs.carrying.packed_len.Goals as goal
 
 pub returns-then-refusal-ne0 : goal.returns-then-refusal-ne0

@@ -1,7 +1,6 @@
 -- `scatter` meets its contract. Assumes nothing.
 use mathlib.Core.Path.{refl}
 use Rattle.astrephon.proofs.Transfers.{carry_asks, scattered_closed, scattered_done}
-use borrow.Author.Rules.{rules}
 use Rattle.astrephon.proofs.carrying.scatter.Goals as goal
 
 pub returns-then-refusal-ne0 : goal.returns-then-refusal-ne0

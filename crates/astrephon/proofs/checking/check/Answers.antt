@@ -1,7 +1,6 @@
 -- `check` meets its contract. Assumes nothing.
 use native.Mathlib.Omega.{arith}
 use Rattle.astrephon.proofs.Checks.{check_refused, check_accepted, elements_few}
-use borrow.Author.Rules.{rules}
 use Rattle.astrephon.proofs.checking.check.Goals as goal
 
 pub returns-then-reading-ne0 : goal.returns-then-reading-ne0

@@ -1,7 +1,6 @@
 -- `list_sheet` meets its contract. Assumes nothing.
 use native.Mathlib.Omega.{arith}
 use Rattle.astrephon.proofs.Texts.{written_refused, written_done}
-use borrow.Author.Rules.{rules}
 use Rattle.astrephon.proofs.listing.list_sheet.Goals as goal
 
 pub returns-then-text-n : goal.returns-then-text-n

@@ -1,7 +1,6 @@
 -- `exact` meets its contract. Assumes nothing.
 use Rattle.openings.proofs.Opens.{opened}
 use Rattle.astrephon.proofs.Mappings.{exact_closed, exact_fault, exact_foreign, exact_at}
-use borrow.Author.Rules.{rules}
 use Rattle.astrephon.proofs.mapping.exact.Goals as goal
 
 pub returns-then-refusal-ne0 : goal.returns-then-refusal-ne0

@@ -2,7 +2,6 @@
 use native.Mathlib.Omega.{arith}
 use Rattle.openings.proofs.Opens.{opened}
 use Rattle.astrephon.proofs.Mappings.{inverse_closed, inverse_past, inverse_beyond, inverse_at}
-use borrow.Author.Rules.{rules}
 use Rattle.astrephon.proofs.mapping.inverse.Goals as goal
 
 pub returns-then-refusal-ne0 : goal.returns-then-refusal-ne0

@@ -1,7 +1,6 @@
 -- `next` meets its contract. Assumes nothing.
 use Rattle.openings.proofs.Opens.{opened}
 use Rattle.astrephon.proofs.Mappings.{next_closed, next_fault, next_at}
-use borrow.Author.Rules.{rules}
 use Rattle.astrephon.proofs.mapping.next.Goals as goal
 
 pub returns-then-refusal-ne0 : goal.returns-then-refusal-ne0

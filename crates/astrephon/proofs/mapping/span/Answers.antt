@@ -1,7 +1,6 @@
 -- `span` meets its contract. Assumes nothing.
 use Rattle.openings.proofs.Opens.{opened}
 use Rattle.astrephon.proofs.Mappings.{span_closed, span_fault, span_at}
-use borrow.Author.Rules.{rules}
 use Rattle.astrephon.proofs.mapping.span.Goals as goal
 
 pub returns-then-refusal-ne0 : goal.returns-then-refusal-ne0

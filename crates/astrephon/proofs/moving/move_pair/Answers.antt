@@ -2,7 +2,6 @@
 use mathlib.Core.Path.{refl}
 use Rattle.openings.proofs.Faults.{pair_known}
 use Rattle.astrephon.proofs.TrayMoves.{pair_closed, pair_absent, pair_fault, move_asks, pair_done}
-use borrow.Author.Rules.{rules}
 use Rattle.astrephon.proofs.moving.move_pair.Goals as goal
 
 pub returns-then-refusal-ne0 : goal.returns-then-refusal-ne0

@@ -1,7 +1,6 @@
 -- `move_tray` meets its contract. Assumes nothing.
 use mathlib.Core.Path.{refl}
 use Rattle.astrephon.proofs.TrayMoves.{moved_closed, moved_fault, move_asks, moved_done}
-use borrow.Author.Rules.{rules}
 use Rattle.astrephon.proofs.moving.move_tray.Goals as goal
 
 pub returns-then-refusal-ne0 : goal.returns-then-refusal-ne0

@@ -1,7 +1,6 @@
 -- `shared_runs` meets its contract. Assumes nothing.
 use mathlib.Core.Path.{refl}
 use Rattle.astrephon.proofs.Listings.{shared_closed, shared_asks, shared_room, shared_listed}
-use borrow.Author.Rules.{rules}
 use Rattle.astrephon.proofs.sharing.shared_runs.Goals as goal
 
 pub returns-then-refusal-ne0 : goal.returns-then-refusal-ne0

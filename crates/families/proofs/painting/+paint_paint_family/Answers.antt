@@ -1,14 +1,11 @@
 -- `paint` and `paint_family` meet their contracts. The loop over siblings keeps what is left to be painted, the loop over segments what is painted.
 -- The measure is the levels left, twice, since each calls the other. Assumes nothing.
 use mathlib.Core.Path.{refl}
-use Prim.Native.Nat.{ℕ, ◌+◌, ◌-◌, ◌*◌, ◌≤◌, ◌<◌}
+use Prim.Native.Nat.{ℕ, ◌+◌, ◌*◌, ◌≤◌, ◌<◌}
 use native.Mathlib.Omega.{arith}
-use borrow.Author.Rules.{rules}
 use lib.ListN.{length}
-use Rattle.families.specs.Forest.{inner}
-use Rattle.families.specs.Decoded.{family_at, forest_at}
 use Rattle.families.proofs.Steps.{held}
-use Rattle.families.proofs.Turns.{Turn, turn_first, turn_room, turn_part, turn_next, turn_last, Left, left_all, left_step, left_family, left_next, left_none, inner_all, inner_has}
+use Rattle.families.proofs.Turns.{turn_first, turn_room, turn_part, turn_next, turn_last, left_all, left_step, left_family, left_next, left_none, inner_all, inner_has}
 use Rattle.families.proofs.painting.+paint_paint_family.Goals as goal
 use Rattle.families.proofs.painting.+paint_paint_family.Goals.{paint-In-loop-left, paint_family-In-loop-k}
 

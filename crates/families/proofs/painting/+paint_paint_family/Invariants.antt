@@ -1,12 +1,7 @@
-use mathlib.Core.Path.{refl}
-use Prim.Native.Nat.{ℕ, ◌+◌, ◌-◌, ◌*◌, ◌≤◌, ◌<◌}
-use native.Mathlib.Omega.{arith}
-use borrow.Author.Rules.{rules}
-use lib.ListN.{length}
+use Prim.Native.Nat.{◌+◌, ◌-◌, ◌*◌, ◌≤◌}
 use Rattle.families.specs.Forest.{inner}
 use Rattle.families.specs.Decoded.{family_at, forest_at}
-use Rattle.families.proofs.Steps.{held}
-use Rattle.families.proofs.Turns.{Turn, turn_first, turn_room, turn_part, turn_next, turn_last, Left, left_all, left_step, left_family, left_next, left_none, inner_all, inner_has}
+use Rattle.families.proofs.Turns.{Turn, Left}
 use Rattle.families.proofs.painting.+paint_paint_family.Given as goal
 
 abbrev pub decreases-paint : goal.decreases-paint

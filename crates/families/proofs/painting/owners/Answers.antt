@@ -1,8 +1,5 @@
 -- `owners` meets its contract. The loop's invariant: the table has the owners among the first e elements. Assumes nothing.
-use Prim.Native.Nat.{◌-◌}
-use native.Mathlib.Omega.{arith}
-use lib.ListN.{length}
-use Rattle.families.proofs.Owning.{Going, going_start, going_asks, going_next, going_end}
+use Rattle.families.proofs.Owning.{going_start, going_asks, going_next, going_end}
 use Rattle.families.proofs.painting.owners.Goals as goal
 
 pub loop-e-init : goal.loop-e-init

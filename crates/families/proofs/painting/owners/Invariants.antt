@@ -1,7 +1,6 @@
 use Prim.Native.Nat.{◌-◌}
-use native.Mathlib.Omega.{arith}
 use lib.ListN.{length}
-use Rattle.families.proofs.Owning.{Going, going_start, going_asks, going_next, going_end}
+use Rattle.families.proofs.Owning.{Going}
 use Rattle.families.proofs.painting.owners.Given as goal
 
 abbrev pub invariant-loop-e : goal.invariant-loop-e

@@ -1,12 +1,10 @@
 -- `paint_all` meets its contract. The loop's invariant: the places below i are painted, and the others are as they were. Assumes nothing.
 use mathlib.Core.Path.{refl, sym, ap, ◌∙◌}
 use mathlib.Core.Bool.{true}
-use Prim.Native.Nat.{◌-◌}
 use native.Mathlib.Omega.{arith}
-use borrow.Author.Rules.{rules}
-use lib.ListN.{length, length-set}
-use Rattle.families.specs.Owners.{mark, painted}
-use Rattle.families.proofs.Filling.{Filled, filled_none, filled_next, filled_all}
+use lib.ListN.{length-set}
+use Rattle.families.specs.Owners.{mark}
+use Rattle.families.proofs.Filling.{filled_none, filled_next, filled_all}
 use Rattle.families.proofs.Marks.{length_painted, get_or_painted}
 use Rattle.families.proofs.painting.paint_all.Goals as goal
 

@@ -1,12 +1,8 @@
-use mathlib.Core.Path.{refl, sym, ap, ◌∙◌}
 use mathlib.Core.Bool.{true}
 use Prim.Native.Nat.{◌-◌}
-use native.Mathlib.Omega.{arith}
-use borrow.Author.Rules.{rules}
-use lib.ListN.{length, length-set}
-use Rattle.families.specs.Owners.{mark, painted}
-use Rattle.families.proofs.Filling.{Filled, filled_none, filled_next, filled_all}
-use Rattle.families.proofs.Marks.{length_painted, get_or_painted}
+use lib.ListN.{length}
+use Rattle.families.specs.Owners.{painted}
+use Rattle.families.proofs.Filling.{Filled}
 use Rattle.families.proofs.painting.paint_all.Given as goal
 
 abbrev pub invariant-loop-i : goal.invariant-loop-i

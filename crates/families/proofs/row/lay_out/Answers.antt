@@ -1,9 +1,9 @@
 -- `lay_out` meets its contract. The loop's invariant: the families below i stand in the row, and behind them what stood there. Assumes nothing.
 use mathlib.Core.Path.{◌≡◌, ap, ◌∙◌}
-use Prim.Native.Nat.{◌+◌, ◌-◌, ◌*◌, ◌≤◌}
+use Prim.Native.Nat.{◌+◌, ◌-◌, ◌*◌}
 use native.Mathlib.Omega.{arith}
 use lib.ListN.{length}
-use Rattle.families.proofs.Rows.{Laid, laid_none, laid_long, laid_part, laid_next, laid_all, mapped_long}
+use Rattle.families.proofs.Rows.{laid_none, laid_long, laid_part, laid_next, laid_all, mapped_long}
 use Rattle.families.proofs.row.lay_out.Goals as goal
 
 pub loop-i-init : goal.loop-i-init

@@ -1,8 +1,5 @@
-use mathlib.Core.Path.{◌≡◌, ap, ◌∙◌}
-use Prim.Native.Nat.{◌+◌, ◌-◌, ◌*◌, ◌≤◌}
-use native.Mathlib.Omega.{arith}
-use lib.ListN.{length}
-use Rattle.families.proofs.Rows.{Laid, laid_none, laid_long, laid_part, laid_next, laid_all, mapped_long}
+use Prim.Native.Nat.{◌-◌, ◌≤◌}
+use Rattle.families.proofs.Rows.{Laid}
 use Rattle.families.proofs.row.lay_out.Given as goal
 
 abbrev pub invariant-loop-i : goal.invariant-loop-i

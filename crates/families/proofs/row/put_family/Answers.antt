@@ -2,7 +2,6 @@
 use native.Mathlib.Omega.{arith}
 use lib.ListN.{length-set}
 use Rattle.families.proofs.Rows.{six_stored}
-use borrow.Author.Rules.{rules}
 use Rattle.families.proofs.row.put_family.Goals as goal
 
 pub bounds-six-4 : goal.bounds-six-4

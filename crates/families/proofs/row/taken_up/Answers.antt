@@ -1,12 +1,11 @@
 -- `taken_up` meets its contract. The loop's invariant: the array's first `at` families are the row's, and the others are none. Assumes nothing.
 use mathlib.Core.Path.{◌≡◌, refl, sym, ◌∙◌}
-use Prim.Native.Nat.{◌-◌, ◌≤◌, ◌<◌}
+use Prim.Native.Nat.{◌<◌}
 use native.Mathlib.Omega.{arith}
-use lib.ListN.{replicate, length-replicate}
-use Rattle.counting.specs.Gather.{tabulated}
+use lib.ListN.{length-replicate}
 use Rattle.counting.proofs.Gathers.{length_tabulated}
 use Rattle.families.specs.Decoded.{no_family, family_at}
-use Rattle.families.proofs.Filling.{Filled, filled_none, filled_next}
+use Rattle.families.proofs.Filling.{filled_none, filled_next}
 use Rattle.families.proofs.Rows.{taken_at, taken_all}
 use Rattle.families.proofs.row.taken_up.Goals as goal
 

@@ -1,12 +1,8 @@
-use mathlib.Core.Path.{◌≡◌, refl, sym, ◌∙◌}
-use Prim.Native.Nat.{◌-◌, ◌≤◌, ◌<◌}
-use native.Mathlib.Omega.{arith}
-use lib.ListN.{replicate, length-replicate}
+use Prim.Native.Nat.{◌-◌, ◌≤◌}
+use lib.ListN.{replicate}
 use Rattle.counting.specs.Gather.{tabulated}
-use Rattle.counting.proofs.Gathers.{length_tabulated}
 use Rattle.families.specs.Decoded.{no_family, family_at}
-use Rattle.families.proofs.Filling.{Filled, filled_none, filled_next}
-use Rattle.families.proofs.Rows.{taken_at, taken_all}
+use Rattle.families.proofs.Filling.{Filled}
 use Rattle.families.proofs.row.taken_up.Given as goal
 
 abbrev pub invariant-loop-at : goal.invariant-loop-at

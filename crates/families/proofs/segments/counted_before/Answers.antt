@@ -1,7 +1,6 @@
 -- `counted_before` meets its contract. Assumes nothing.
 use native.Mathlib.Omega.{arith}
 use Rattle.families.proofs.OneFamily.{rank_is}
-use borrow.Author.Rules.{rules}
 use Rattle.families.proofs.segments.counted_before.Goals as goal
 
 pub overflow_mul-result : goal.overflow_mul-result

@@ -2,7 +2,6 @@
 use native.Mathlib.Omega.{arith}
 use mathlib.Core.Path.{ap}
 use Prim.Native.Nat.{ℕ, ◌*◌}
-use borrow.Author.Rules.{rules}
 use Rattle.families.proofs.segments.counted_in_all.Goals as goal
 
 pub overflow_mul-result : goal.overflow_mul-result

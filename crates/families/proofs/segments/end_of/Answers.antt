@@ -2,7 +2,6 @@
 use mathlib.Core.Path.{◌≡◌, ap₂}
 use Prim.Native.Nat.{◌-◌, ◌*◌}
 use native.Mathlib.Omega.{arith}
-use borrow.Author.Rules.{rules}
 use Rattle.families.proofs.segments.end_of.Goals as goal
 use Rattle.families.proofs.segments.end_of.Goals.{After-wide-3}
 

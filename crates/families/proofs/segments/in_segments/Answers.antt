@@ -1,6 +1,5 @@
 -- `in_segments` meets its contract. Assumes nothing.
 use Rattle.families.proofs.OneFamily.{in_before, in_beyond, in_within}
-use borrow.Author.Rules.{rules}
 use Rattle.families.proofs.segments.in_segments.Goals as goal
 
 pub returns-then-x-l : goal.returns-then-x-l

@@ -1,12 +1,10 @@
 -- `leaf_rank` meets its contract: the steps give what `leaf_rank_is` counts, with both caps. Assumes nothing.
 use mathlib.Core.Path.{◌≡◌, ◌∙◌}
-use mathlib.Core.Logic.{⊎_elim}
 use Prim.Native.Nat.{◌+◌, ◌*◌, ◌^◌, ◌<◌, min}
 use native.Mathlib.Omega.{arith}
 use Rattle.counting.specs.Count.{count_below}
 use Rattle.families.specs.Decoded.{leaf_of}
 use Rattle.families.proofs.OneFamily.{sum_fits, leaf_rank_is}
-use borrow.Author.Rules.{rules}
 use Rattle.families.proofs.segments.leaf_rank.Goals as goal
 use Rattle.families.proofs.segments.leaf_rank.Goals.{After-wide, else-len-place, then-len-place}
 

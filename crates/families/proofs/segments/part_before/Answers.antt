@@ -1,6 +1,5 @@
 -- `part_before` meets its contract. Assumes nothing.
 use Rattle.families.proofs.OneFamily.{part_none, part_past, part_in}
-use borrow.Author.Rules.{rules}
 use Rattle.families.proofs.segments.part_before.Goals as goal
 
 pub returns-then-n-quotient : goal.returns-then-n-quotient

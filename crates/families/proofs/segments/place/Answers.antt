@@ -1,6 +1,5 @@
 -- `place` meets its contract. Assumes nothing.
 use Rattle.families.proofs.OneFamily.{place_is}
-use borrow.Author.Rules.{rules}
 use Rattle.families.proofs.segments.place.Goals as goal
 
 pub returns : goal.returns

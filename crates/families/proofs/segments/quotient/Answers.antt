@@ -1,6 +1,5 @@
 -- `quotient` meets its contract. Assumes nothing.
 use Rattle.families.proofs.OneFamily.{quotient_zero}
-use borrow.Author.Rules.{rules}
 use Rattle.families.proofs.segments.quotient.Goals as goal
 
 pub returns-then-s-eq0 : goal.returns-then-s-eq0

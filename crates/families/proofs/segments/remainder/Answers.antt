@@ -1,6 +1,5 @@
 -- `remainder` meets its contract. Assumes nothing.
 use Rattle.families.proofs.OneFamily.{remainder_zero}
-use borrow.Author.Rules.{rules}
 use Rattle.families.proofs.segments.remainder.Goals as goal
 
 pub returns-then-s-eq0 : goal.returns-then-s-eq0

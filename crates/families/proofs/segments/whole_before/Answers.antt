@@ -1,6 +1,5 @@
 -- `whole_before` meets its contract. Assumes nothing.
 use Rattle.families.proofs.OneFamily.{whole_low, whole_high}
-use borrow.Author.Rules.{rules}
 use Rattle.families.proofs.segments.whole_before.Goals as goal
 
 pub returns-then-q-n : goal.returns-then-q-n

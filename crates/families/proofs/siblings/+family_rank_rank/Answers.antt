@@ -3,11 +3,10 @@
 use mathlib.Core.Path.{◌≡◌, ◌∙◌}
 use Prim.Native.Nat.{◌+◌, ◌*◌, ◌^◌, ◌≤◌}
 use native.Mathlib.Omega.{arith}
-use borrow.Author.Rules.{rules}
 use lib.ListN.{length}
 use Rattle.counting.specs.Count.{count_below}
 use Rattle.counting.proofs.Counts.{count_le}
-use Rattle.families.specs.Forest.{Forest, has, inner, Sound}
+use Rattle.families.specs.Forest.{Forest, has, inner}
 use Rattle.families.specs.Decoded.{segments_of, family_at, forest_at}
 use Rattle.families.proofs.Division.{whole}
 use Rattle.families.proofs.NestedFamily.{kids_sound, leaf_counts, kids_count}

@@ -1,17 +1,8 @@
-use mathlib.Core.Path.{◌≡◌, ◌∙◌}
-use Prim.Native.Nat.{◌+◌, ◌*◌, ◌^◌, ◌≤◌}
-use native.Mathlib.Omega.{arith}
-use borrow.Author.Rules.{rules}
-use lib.ListN.{length}
+use mathlib.Core.Path.{◌≡◌}
+use Prim.Native.Nat.{◌+◌, ◌*◌}
 use Rattle.counting.specs.Count.{count_below}
-use Rattle.counting.proofs.Counts.{count_le}
-use Rattle.families.specs.Forest.{Forest, has, inner, Sound}
-use Rattle.families.specs.Decoded.{segments_of, family_at, forest_at}
-use Rattle.families.proofs.Division.{whole}
-use Rattle.families.proofs.NestedFamily.{kids_sound, leaf_counts, kids_count}
-use Rattle.families.proofs.Steps.{leaf, branch, rest_of}
-use Rattle.families.proofs.Loops.{Here, here, held_here, nested, rank_step, rank_none}
-use Prim.Native.Nat.{ℕ, ◌<◌}
+use Rattle.families.specs.Forest.{has, Sound}
+use Rattle.families.specs.Decoded.{family_at, forest_at}
 use Rattle.families.proofs.siblings.+family_rank_rank.Given as goal
 
 abbrev pub decreases-family_rank : goal.decreases-family_rank

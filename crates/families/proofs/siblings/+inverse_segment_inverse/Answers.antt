@@ -5,7 +5,7 @@ use Prim.Native.Nat.{◌+◌, ◌-◌, ◌*◌, ◌/◌, ◌^◌, ◌≤◌}
 use native.Mathlib.Omega.{arith}
 use lib.ListN.{length}
 use Rattle.counting.specs.Count.{nth}
-use Rattle.families.specs.Forest.{Forest, has, end_of, size_of, Sound}
+use Rattle.families.specs.Forest.{Forest, has, end_of, size_of}
 use Rattle.families.specs.Decoded.{family_at, forest_at}
 use Rattle.families.proofs.Forests.{each_kids, size_le, positive}
 use Rattle.families.proofs.NestedFamily.{kids_sound, segment_le, leaf_nth, kids_nth}

@@ -1,15 +1,9 @@
-use mathlib.Core.Path.{◌≡◌, refl, sym, ◌∙◌}
-use Prim.Native.Nat.{◌+◌, ◌-◌, ◌*◌, ◌/◌, ◌^◌, ◌≤◌}
-use native.Mathlib.Omega.{arith}
-use lib.ListN.{length}
+use mathlib.Core.Path.{◌≡◌}
+use Prim.Native.Nat.{◌+◌, ◌*◌}
 use Rattle.counting.specs.Count.{nth}
-use Rattle.families.specs.Forest.{Forest, has, end_of, size_of, Sound}
+use Rattle.families.specs.Forest.{has, end_of, size_of, Sound}
 use Rattle.families.specs.Decoded.{family_at, forest_at}
-use Rattle.families.proofs.Forests.{each_kids, size_le, positive}
-use Rattle.families.proofs.NestedFamily.{kids_sound, segment_le, leaf_nth, kids_nth}
-use Rattle.families.proofs.Steps.{leaf, branch, rest_of}
-use Rattle.families.proofs.Loops.{Here, here, held_here, nested, size_step, size_none, nth_in, nth_rest, nth_le, number_fits, place_lt}
-use Prim.Native.Nat.{ℕ, ◌<◌}
+use Prim.Native.Nat.{◌<◌}
 use Rattle.families.proofs.siblings.+inverse_segment_inverse.Given as goal
 
 abbrev pub decreases-inverse : goal.decreases-inverse

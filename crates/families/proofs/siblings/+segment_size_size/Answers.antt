@@ -3,9 +3,8 @@
 use mathlib.Core.Path.{◌≡◌, sym, ◌∙◌}
 use Prim.Native.Nat.{◌+◌, ◌-◌, ◌*◌, ◌^◌, ◌≤◌}
 use native.Mathlib.Omega.{arith}
-use borrow.Author.Rules.{rules}
 use lib.ListN.{length}
-use Rattle.families.specs.Forest.{size_of, Sound}
+use Rattle.families.specs.Forest.{size_of}
 use Rattle.families.specs.Decoded.{family_at, forest_at}
 use Rattle.families.proofs.Forests.{each_leaf, each_kids, size_le}
 use Rattle.families.proofs.NestedFamily.{kids_sound}

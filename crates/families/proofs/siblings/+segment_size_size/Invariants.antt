@@ -1,15 +1,7 @@
-use mathlib.Core.Path.{◌≡◌, sym, ◌∙◌}
-use Prim.Native.Nat.{◌+◌, ◌-◌, ◌*◌, ◌^◌, ◌≤◌}
-use native.Mathlib.Omega.{arith}
-use borrow.Author.Rules.{rules}
-use lib.ListN.{length}
+use mathlib.Core.Path.{◌≡◌}
+use Prim.Native.Nat.{◌+◌, ◌*◌}
 use Rattle.families.specs.Forest.{size_of, Sound}
 use Rattle.families.specs.Decoded.{family_at, forest_at}
-use Rattle.families.proofs.Forests.{each_leaf, each_kids, size_le}
-use Rattle.families.proofs.NestedFamily.{kids_sound}
-use Rattle.families.proofs.Steps.{leaf, branch, rest_of}
-use Rattle.families.proofs.Loops.{Here, here, held_here, nested, size_step, size_none}
-use Prim.Native.Nat.{ℕ, ◌<◌}
 use Rattle.families.proofs.siblings.+segment_size_size.Given as goal
 
 abbrev pub decreases-segment_size : goal.decreases-segment_size

@@ -1,12 +1,10 @@
 -- `selects` meets its contract. The measure is the levels left. The loop: what is left selects x exactly when all of it does.
 -- Assumes nothing.
-use mathlib.Core.Path.{◌≡◌, refl, sym, ◌∙◌}
+use mathlib.Core.Path.{refl, sym, ◌∙◌}
 use Prim.Native.Nat.{◌+◌, ◌*◌}
 use native.Mathlib.Omega.{arith}
 use lib.ListN.{length}
-use borrow.Author.Rules.{rules}
-use Rattle.families.specs.Forest.{has, Sound}
-use Rattle.families.specs.Decoded.{family_at, forest_at}
+use Rattle.families.specs.Decoded.{family_at}
 use Rattle.families.proofs.NestedFamily.{kids_sound}
 use Rattle.families.proofs.Loops.{Here, here, held_here, nested, has_leaf, has_kids, has_rest, has_none}
 use Prim.Native.Nat.{ℕ, ◌<◌}

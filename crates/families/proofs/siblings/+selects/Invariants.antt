@@ -1,13 +1,6 @@
-use mathlib.Core.Path.{◌≡◌, refl, sym, ◌∙◌}
-use Prim.Native.Nat.{◌+◌, ◌*◌}
-use native.Mathlib.Omega.{arith}
-use lib.ListN.{length}
-use borrow.Author.Rules.{rules}
+use mathlib.Core.Path.{◌≡◌}
 use Rattle.families.specs.Forest.{has, Sound}
 use Rattle.families.specs.Decoded.{family_at, forest_at}
-use Rattle.families.proofs.NestedFamily.{kids_sound}
-use Rattle.families.proofs.Loops.{Here, here, held_here, nested, has_leaf, has_kids, has_rest, has_none}
-use Prim.Native.Nat.{ℕ, ◌<◌}
 use Rattle.families.proofs.siblings.+selects.Given as goal
 
 abbrev pub decreases-selects : goal.decreases-selects

@@ -1,11 +1,8 @@
 -- `end` meets its contract. The loop's invariant: the end so far or that of the families left is the end of all. Assumes nothing.
-use mathlib.Core.Path.{◌≡◌}
-use mathlib.Core.Logic.{⊎_elim}
-use Prim.Native.Nat.{◌+◌, ◌*◌, ◌<◌, max}
+use Prim.Native.Nat.{◌+◌, ◌*◌, ◌<◌}
 use native.Mathlib.Omega.{arith}
 use lib.ListN.{length}
-use Rattle.families.specs.Forest.{end_of, Sound}
-use Rattle.families.specs.Decoded.{family_at, forest_at}
+use Rattle.families.specs.Decoded.{family_at}
 use Rattle.families.proofs.Loops.{Here, here, held_here, end_step, end_none}
 use Rattle.families.proofs.siblings.end.Goals as goal
 use Rattle.families.proofs.siblings.end.Goals.{After-family_at-f, In-loop-left, else-end-past, then-end-past}

@@ -1,11 +1,7 @@
 use mathlib.Core.Path.{◌≡◌}
-use mathlib.Core.Logic.{⊎_elim}
-use Prim.Native.Nat.{◌+◌, ◌*◌, ◌<◌, max}
-use native.Mathlib.Omega.{arith}
-use lib.ListN.{length}
+use Prim.Native.Nat.{max}
 use Rattle.families.specs.Forest.{end_of, Sound}
 use Rattle.families.specs.Decoded.{family_at, forest_at}
-use Rattle.families.proofs.Loops.{Here, here, held_here, end_step, end_none}
 use Rattle.families.proofs.siblings.end.Given as goal
 
 abbrev pub invariant-loop-left : goal.invariant-loop-left

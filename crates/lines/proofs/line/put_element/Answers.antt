@@ -1,5 +1,4 @@
 -- `put_element` meets its contract. Assumes nothing.
-use borrow.Author.Rules.{rules}
 use Rattle.lines.proofs.Lines.{put_element}
 use Rattle.words.specs.Texts.{word}
 use Rattle.lines.proofs.line.put_element.Goals as goal

@@ -1,6 +1,5 @@
 -- `put_flag` meets its contract. Assumes nothing.
 use native.Mathlib.Omega.{arith}
-use borrow.Author.Rules.{rules}
 use Rattle.lines.proofs.Lines.{put_hole, put_overlap, put_no_flag}
 use Rattle.words.specs.Texts.{word}
 use Rattle.lines.proofs.line.put_flag.Goals as goal

@@ -1,5 +1,4 @@
 -- `put_layout` meets its contract. Assumes nothing.
-use borrow.Author.Rules.{rules}
 use Rattle.lines.proofs.Lines.{put_layout}
 use Rattle.words.specs.Texts.{word}
 use Rattle.lines.proofs.line.put_layout.Goals as goal

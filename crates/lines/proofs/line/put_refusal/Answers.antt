@@ -1,5 +1,4 @@
 -- `put_refusal` meets its contract. Assumes nothing.
-use borrow.Author.Rules.{rules}
 use Rattle.lines.proofs.Lines.{put_refusal}
 use Rattle.words.specs.Texts.{word}
 use Rattle.lines.proofs.line.put_refusal.Goals as goal

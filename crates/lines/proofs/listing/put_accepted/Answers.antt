@@ -1,5 +1,4 @@
 -- `put_accepted` meets its contract. Assumes nothing.
-use borrow.Author.Rules.{rules}
 use Rattle.lines.proofs.Lines.{put_accepted}
 use Rattle.lines.proofs.listing.put_accepted.Goals as goal
 

@@ -1,7 +1,6 @@
 -- `put_listing` meets its contract. Assumes nothing.
 use mathlib.Core.Path.{refl}
 use native.Mathlib.Omega.{arith}
-use borrow.Author.Rules.{rules}
 use Rattle.lines.proofs.Lines.{accepted, listed_accepted, listed_refused, all_listable}
 use Rattle.lines.proofs.listing.put_listing.Goals as goal
 

@@ -1,5 +1,4 @@
 -- `put_tree` meets its contract. Assumes nothing.
-use borrow.Author.Rules.{rules}
 use Rattle.lines.proofs.Lines.{put_tree}
 use Rattle.lines.proofs.listing.put_tree.Goals as goal
 

@@ -1,7 +1,6 @@
 -- `put_trees` meets its contract: after e turns, the lines of e elements are put. Assumes nothing.
-use Prim.Native.Nat.{◌-◌}
 use native.Mathlib.Omega.{arith}
-use Rattle.lines.proofs.Lines.{Lined, lined_none, lined_room, lined_more, lined_all}
+use Rattle.lines.proofs.Lines.{lined_none, lined_room, lined_more, lined_all}
 use Rattle.lines.proofs.listing.put_trees.Goals as goal
 
 pub loop-e-init : goal.loop-e-init

@@ -1,6 +1,5 @@
 use Prim.Native.Nat.{◌-◌}
-use native.Mathlib.Omega.{arith}
-use Rattle.lines.proofs.Lines.{Lined, lined_none, lined_room, lined_more, lined_all}
+use Rattle.lines.proofs.Lines.{Lined}
 use Rattle.lines.proofs.listing.put_trees.Given as goal
 
 abbrev pub invariant-loop-e : goal.invariant-loop-e

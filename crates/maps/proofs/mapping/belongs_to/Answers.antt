@@ -1,6 +1,5 @@
 -- `belongs_to` meets its contract. Assumes nothing.
 use native.Mathlib.Omega.{arith}
-use borrow.Author.Rules.{rules}
 use Rattle.maps.proofs.Mapped.{period_some, place_small, none_before, belongs_by_place}
 use Rattle.maps.proofs.mapping.belongs_to.Goals as goal
 

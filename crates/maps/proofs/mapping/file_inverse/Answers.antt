@@ -1,6 +1,5 @@
 -- `file_inverse` meets its contract. Assumes nothing.
 use native.Mathlib.Omega.{arith}
-use borrow.Author.Rules.{rules}
 use Rattle.maps.proofs.Mapped.{rest_inside, turns_small, byte_by_periods}
 use Rattle.maps.proofs.mapping.file_inverse.Goals as goal
 

@@ -1,6 +1,5 @@
 -- `file_rank` meets its contract. Assumes nothing.
 use native.Mathlib.Omega.{arith}
-use borrow.Author.Rules.{rules}
 use Rattle.maps.proofs.Mapped.{period_some, place_small, rank_before, rank_by_periods, rank_small, whole_small}
 use Rattle.maps.proofs.mapping.file_rank.Goals as goal
 

@@ -1,6 +1,5 @@
 -- `selection_of` meets its contract. Assumes nothing.
 use native.Mathlib.Omega.{arith}
-use borrow.Author.Rules.{rules}
 use Rattle.maps.proofs.Chosen.{chosen_sound, chosen_small, chosen_is}
 use Rattle.maps.proofs.mapping.selection_of.Goals as goal
 

@@ -1,10 +1,8 @@
 -- `fill_strides` meets its contract. The loop's invariant: the tables are filled from the place on, and what every owner faces is known. Assumes nothing.
-use mathlib.Core.Logic.{⊎_elim}
 use Prim.Native.Nat.{◌+◌, ◌-◌}
 use native.Mathlib.Omega.{arith}
 use lib.ListN.{get_or, set}
-use borrow.Author.Rules.{rules}
-use Rattle.moves.proofs.Filling.{Turned, Filling, Fitting, filling_start, filling_turn, filling_same, filling_fits, filling_next, filling_all}
+use Rattle.moves.proofs.Filling.{Turned, Fitting, filling_start, filling_turn, filling_same, filling_fits, filling_next, filling_all}
 use Rattle.moves.proofs.ahead.fill_strides.Goals as goal
 use Rattle.moves.proofs.ahead.fill_strides.Goals.{After-row_known-1, Then-owner-last, then-owner-last, else-owner-last}
 

@@ -1,9 +1,4 @@
-use mathlib.Core.Logic.{⊎_elim}
-use Prim.Native.Nat.{◌+◌, ◌-◌}
-use native.Mathlib.Omega.{arith}
-use lib.ListN.{get_or, set}
-use borrow.Author.Rules.{rules}
-use Rattle.moves.proofs.Filling.{Turned, Filling, Fitting, filling_start, filling_turn, filling_same, filling_fits, filling_next, filling_all}
+use Rattle.moves.proofs.Filling.{Filling}
 use Rattle.moves.proofs.ahead.fill_strides.Given as goal
 
 abbrev pub invariant-loop-place : goal.invariant-loop-place

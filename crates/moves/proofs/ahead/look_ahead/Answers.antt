@@ -1,6 +1,5 @@
 -- `look_ahead` meets its contract: the marks stand for the selection. Assumes nothing.
 use native.Mathlib.Omega.{arith}
-use borrow.Author.Rules.{rules}
 use Rattle.moves.proofs.Looking.{look_from, look_near, look_nexts, look_strides}
 use Rattle.moves.proofs.ahead.look_ahead.Goals as goal
 

@@ -1,6 +1,5 @@
 -- `gather` meets its contract: either size of tables has room for a period of the selection. Assumes nothing.
 use native.Mathlib.Omega.{arith}
-use borrow.Author.Rules.{rules}
 use Rattle.runs.proofs.Room.{side_smaller}
 use Rattle.moves.proofs.Bounds.{tables_ask, gather_empty}
 use Rattle.moves.proofs.gathering.gather.Goals as goal

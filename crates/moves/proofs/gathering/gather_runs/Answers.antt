@@ -1,12 +1,9 @@
 -- `gather_runs` meets its contract. The loop's invariant: what is packed and what is left make the whole. Assumes nothing.
 use mathlib.Core.Path.{ap}
-use Prim.Native.Nat.{◌-◌}
 use native.Mathlib.Omega.{arith}
-use Rattle.counting.specs.Gather.{in_file}
-use Rattle.maps.specs.Selected.{belongs}
 use Rattle.moves.specs.declared.walks.Walk.{Walk}
 use Rattle.moves.proofs.Striding.{begin_asks, run_asks, onward_asks}
-use Rattle.moves.proofs.Packing.{Packing, packing_start, packing_end, gather_fits, gather_next}
+use Rattle.moves.proofs.Packing.{packing_start, packing_end, gather_fits, gather_next}
 use Rattle.moves.proofs.gathering.gather_runs.Goals as goal
 
 pub begin-walk-requires : goal.begin-walk-requires

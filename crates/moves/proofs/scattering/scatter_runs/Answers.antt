@@ -1,11 +1,9 @@
 -- `scatter_runs` meets its contract. The loop's invariant: the file buffer is as it shall be up to where the walk stands. Assumes nothing.
 use mathlib.Core.Path.{ap}
-use Prim.Native.Nat.{◌-◌}
 use native.Mathlib.Omega.{arith}
-use Rattle.maps.specs.Selected.{belongs}
 use Rattle.moves.specs.declared.walks.Walk.{Walk}
 use Rattle.moves.proofs.Striding.{begin_asks, run_asks, onward_asks}
-use Rattle.moves.proofs.Unpacking.{Unpacking, unpacking_start, unpacking_fits, unpacking_next, unpacking_end}
+use Rattle.moves.proofs.Unpacking.{unpacking_start, unpacking_fits, unpacking_next, unpacking_end}
 use Rattle.moves.proofs.scattering.scatter_runs.Goals as goal
 
 pub begin-walk-requires : goal.begin-walk-requires

@@ -1,5 +1,4 @@
 -- `begin` meets its contract: the first byte from a on has its rank. Assumes nothing.
-use borrow.Author.Rules.{rules}
 use native.Mathlib.Omega.{arith}
 use Rattle.maps.proofs.Mapped.{period_some}
 use Rattle.moves.proofs.Beginnings.{rank_near, byte_after, begun}

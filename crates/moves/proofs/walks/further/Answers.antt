@@ -1,6 +1,5 @@
 -- `further` meets its contract. Assumes nothing.
 use mathlib.Core.Path.{sym, ◌∙◌}
-use borrow.Author.Rules.{rules}
 use Rattle.moves.proofs.Beginnings.{furthers_on, further_in}
 use Rattle.moves.proofs.walks.further.Goals as goal
 

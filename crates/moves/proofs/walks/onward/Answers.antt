@@ -1,5 +1,4 @@
 -- `onward` meets its contract. Assumes nothing.
-use borrow.Author.Rules.{rules}
 use Rattle.moves.proofs.Beginnings.{onward_is}
 use Rattle.moves.proofs.walks.onward.Goals as goal
 

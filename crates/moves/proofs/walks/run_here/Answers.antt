@@ -1,6 +1,5 @@
 -- `run_here` meets its contract. Assumes nothing.
 use native.Mathlib.Omega.{arith}
-use borrow.Author.Rules.{rules}
 use Rattle.moves.proofs.walks.run_here.Goals as goal
 
 pub overflow_add-run : goal.overflow_add-run

@@ -2,7 +2,6 @@
 use native.Mathlib.Omega.{arith}
 use Rattle.counting.proofs.Counts.{count_mono}
 use Rattle.maps.specs.Selected.{belongs}
-use borrow.Author.Rules.{rules}
 use Rattle.openings.proofs.opened.count.Goals as goal
 
 pub overflow_sub-result : goal.overflow_sub-result

@@ -1,7 +1,6 @@
 -- `open_buffers` meets its contract. Assumes nothing.
 use Rattle.openings.proofs.Opens.{windowed, count_is}
 use Rattle.openings.proofs.ElementOpens.{still_closed, buffers_checked}
-use borrow.Author.Rules.{rules}
 use Rattle.openings.proofs.opened.open_buffers.Goals as goal
 
 pub returns-then-refusal-ne0 : goal.returns-then-refusal-ne0

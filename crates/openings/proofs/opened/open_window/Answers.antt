@@ -1,6 +1,5 @@
 -- `open_window` meets its contract. Assumes nothing.
 use Rattle.openings.proofs.ElementOpens.{still_closed, window_checked}
-use borrow.Author.Rules.{rules}
 use Rattle.openings.proofs.opened.open_window.Goals as goal
 
 pub returns-then-refusal-ne0 : goal.returns-then-refusal-ne0

@@ -1,7 +1,6 @@
 -- `open_pair` meets its contract. Assumes nothing.
 use Rattle.openings.proofs.Faults.{pair_known}
 use Rattle.openings.proofs.PairOpens.{first_rules, second_rules, sheets_closed, index_closed, pair_opened}
-use borrow.Author.Rules.{rules}
 use Rattle.openings.proofs.paired.open_pair.Goals as goal
 
 pub returns-then-refusal-ne0 : goal.returns-then-refusal-ne0

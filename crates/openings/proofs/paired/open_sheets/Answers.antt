@@ -1,6 +1,5 @@
 -- `open_sheets` meets its contract. Assumes nothing.
 use Rattle.openings.proofs.PairOpens.{first_closed, second_closed, none_closed, sheets_opened}
-use borrow.Author.Rules.{rules}
 use Rattle.openings.proofs.paired.open_sheets.Goals as goal
 
 pub returns-then-one-ne0 : goal.returns-then-one-ne0

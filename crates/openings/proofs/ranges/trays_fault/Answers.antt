@@ -1,7 +1,6 @@
 -- `trays_fault` meets its contract. Assumes nothing.
 use Rattle.openings.specs.Offsets.{LIMIT}
 use Rattle.openings.proofs.Faults.{range_known, trays_window, trays_buffers}
-use borrow.Author.Rules.{rules}
 use Rattle.openings.proofs.ranges.trays_fault.Goals as goal
 
 pub returns-then-fault-ne0 : goal.returns-then-fault-ne0

@@ -1,15 +1,13 @@
 -- `fill_part` meets its contract. The loop's invariant: what is filled and what is left make the whole. Assumes nothing.
 use mathlib.Core.Path.{◌≡◌, ◌∙◌}
 use mathlib.Core.Logic.{◌⊎◌, ⊎_elim, inl, inr}
-use Prim.Native.Nat.{ℕ, ◌-◌, ◌≤◌}
+use Prim.Native.Nat.{ℕ, ◌≤◌}
 use native.Mathlib.Omega.{arith}
-use borrow.Author.Tests.{eqb-true, eqb-false}
-use Rattle.counting.specs.Trays.{in_tray}
 use Rattle.maps.specs.Selected.{belongs}
-use Rattle.parts.specs.Pieces.{bytes_of, elements_by, takes}
+use Rattle.parts.specs.Pieces.{bytes_of}
 use Rattle.moves.proofs.Striding.{begin_asks, run_asks, further_asks}
 use Rattle.parts.proofs.Piecing.{piece_asks, step_just}
-use Rattle.parts.proofs.Renewing.{Renewing, renewing_start, renewing_end, AtPiece, source_asked, copy_asked, beyond_asked, far_least, far_over}
+use Rattle.parts.proofs.Renewing.{renewing_start, renewing_end, AtPiece, source_asked, copy_asked, beyond_asked, far_least, far_over}
 use Rattle.parts.proofs.Renewing.{piece_forward, piece_copied, piece_passed}
 use Rattle.parts.proofs.filling.fill_part.Goals as goal
 use Rattle.parts.proofs.filling.fill_part.Goals.{After-piece_at-piece, then-only-eq0+then-only-ne0, then-only-eq0+else-only-ne0, else-only-eq0+else-only-piece}

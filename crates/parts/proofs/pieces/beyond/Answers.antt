@@ -1,6 +1,5 @@
 -- `beyond` meets its contract. Assumes nothing.
 use native.Mathlib.Omega.{arith}
-use borrow.Author.Rules.{rules}
 use Rattle.parts.proofs.pieces.beyond.Goals as goal
 
 pub overflow_add-result : goal.overflow_add-result

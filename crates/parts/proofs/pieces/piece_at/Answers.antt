@@ -1,10 +1,8 @@
 -- `piece_at` meets its contract. Assumes nothing.
 use mathlib.Core.Path.{◌≡◌, refl}
-use mathlib.Core.Logic.{⊎_elim}
 use Prim.Native.Nat.{◌+◌, min}
 use native.Mathlib.Omega.{arith}
 use lib.ListN.{get_or}
-use borrow.Author.Rules.{rules}
 use Rattle.parts.specs.Pieces.{place_in}
 use Rattle.parts.proofs.Piecing.{place_held}
 use Rattle.parts.proofs.pieces.piece_at.Goals as goal

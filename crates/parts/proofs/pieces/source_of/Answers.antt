@@ -2,7 +2,6 @@
 use mathlib.Core.Path.{refl, ◌∙◌}
 use native.Mathlib.Omega.{arith}
 use Rattle.parts.proofs.Piecing.{source_fits}
-use borrow.Author.Rules.{rules}
 use Rattle.parts.proofs.pieces.source_of.Goals as goal
 
 pub overflow_mul-rank : goal.overflow_mul-rank

@@ -1,13 +1,11 @@
 -- `add` meets its contract. Assumes nothing.
 use mathlib.Core.Path.{◌≡◌, ap, ◌∙◌}
 use mathlib.Core.List.{List, [], ◌∷◌}
-use mathlib.Core.Logic.{⊎_elim}
 use Prim.Native.Nat.{ℕ, ◌+◌}
 use native.Mathlib.Omega.{arith}
-use lib.ListN.{length, length-set}
-use borrow.Author.Rules.{rules}
+use lib.ListN.{length-set}
 use Rattle.runs.specs.Listing.{filled, with_run}
-use Rattle.runs.proofs.Fillings.{none_written, four_written, length_with_run}
+use Rattle.runs.proofs.Fillings.{none_written, four_written}
 use Rattle.runs.proofs.listing.add.Goals as goal
 use Rattle.runs.proofs.listing.add.Goals.{Joined-next-list, else-next-list, then-next-list}
 

@@ -1,5 +1,4 @@
 -- `list_by_tables` meets its contract: the filled tables stand for the selections. Assumes nothing.
-use borrow.Author.Rules.{rules}
 use Rattle.runs.proofs.Marked.{tables_walk, tables_listed}
 use Rattle.runs.proofs.listing.list_by_tables.Goals as goal
 

@@ -1,5 +1,4 @@
 -- `list_if_held` meets its contract. Assumes nothing.
-use borrow.Author.Rules.{rules}
 use Rattle.runs.proofs.Fillings.{listed_all, listed_none}
 use Rattle.runs.proofs.listing.list_if_held.Goals as goal
 

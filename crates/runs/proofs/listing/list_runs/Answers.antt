@@ -1,8 +1,7 @@
 -- `list_runs` meets its contract. The loop's invariant: what is handed on so far and what is left make the whole. Assumes nothing.
-use Prim.Native.Nat.{◌-◌, ◌≤◌, ◌<◌}
+use Prim.Native.Nat.{◌≤◌, ◌<◌}
 use native.Mathlib.Omega.{arith}
-use Rattle.runs.specs.Walking.{tabled, Walks}
-use Rattle.runs.proofs.Handing.{Handing, handing_first, ran, further, handing_next, handing_all}
+use Rattle.runs.proofs.Handing.{handing_first, ran, further, handing_next, handing_all}
 use Rattle.runs.proofs.listing.list_runs.Goals as goal
 use Rattle.runs.proofs.listing.list_runs.Goals.{After-struct_known-in-loop-at-2-1}
 

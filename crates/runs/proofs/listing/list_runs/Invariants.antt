@@ -1,7 +1,6 @@
-use Prim.Native.Nat.{◌-◌, ◌≤◌, ◌<◌}
-use native.Mathlib.Omega.{arith}
+use Prim.Native.Nat.{◌-◌}
 use Rattle.runs.specs.Walking.{tabled, Walks}
-use Rattle.runs.proofs.Handing.{Handing, handing_first, ran, further, handing_next, handing_all}
+use Rattle.runs.proofs.Handing.{Handing}
 use Rattle.runs.proofs.listing.list_runs.Given as goal
 
 abbrev pub invariant-loop-at : goal.invariant-loop-at

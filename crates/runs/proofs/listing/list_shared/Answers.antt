@@ -1,5 +1,4 @@
 -- `list_shared` meets its contract: either pair of tables has room for both selections. Assumes nothing.
-use borrow.Author.Rules.{rules}
 use Rattle.runs.proofs.Room.{side_smaller, zeros_ask}
 use Rattle.runs.proofs.listing.list_shared.Goals as goal
 

@@ -1,6 +1,5 @@
 -- `fill` meets its contract. Assumes nothing.
 use mathlib.Core.Path.{refl}
-use borrow.Author.Rules.{rules}
 use Rattle.runs.proofs.Marked.{fill_asks, fill_marks}
 use Rattle.runs.proofs.tables.fill.Goals as goal
 

@@ -1,5 +1,4 @@
 -- `fits` meets its contract. Assumes nothing.
-use borrow.Author.Rules.{rules}
 use Rattle.runs.proofs.Room.{end_fits, end_too_far}
 use Rattle.runs.proofs.tables.fits.Goals as goal
 

@@ -1,5 +1,4 @@
 -- `side_at` meets its contract. Assumes nothing.
-use borrow.Author.Rules.{rules}
 use Rattle.maps.proofs.Mapped.{period_some}
 use Rattle.runs.proofs.tables.side_at.Goals as goal
 

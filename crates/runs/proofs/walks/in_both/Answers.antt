@@ -1,6 +1,5 @@
 -- `in_both` meets its contract. Assumes nothing.
 use Rattle.runs.proofs.Sides.{marks_sum}
-use borrow.Author.Rules.{rules}
 use Rattle.runs.proofs.walks.in_both.Goals as goal
 
 pub returns : goal.returns

@@ -1,7 +1,5 @@
 -- `next_side` meets its contract. Assumes nothing.
-use mathlib.Core.Logic.{⊎_elim}
 use native.Mathlib.Omega.{arith}
-use borrow.Author.Rules.{rules}
 use Rattle.runs.proofs.Sides.{next_is}
 use Rattle.runs.proofs.walks.next_side.Goals as goal
 use Rattle.runs.proofs.walks.next_side.Goals.{else-period-place, then-period-place}

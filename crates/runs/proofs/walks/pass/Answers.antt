@@ -1,7 +1,6 @@
 -- `pass` meets its contract. The loop's invariant: every offset that was passed is as wanted. Assumes nothing.
-use Prim.Native.Nat.{◌-◌}
 use native.Mathlib.Omega.{arith}
-use Rattle.runs.proofs.Passing.{Passing, passing_start, passing_marks, passing_ranks, passing_next, passing_stop, passing_end}
+use Rattle.runs.proofs.Passing.{passing_start, passing_marks, passing_ranks, passing_next, passing_stop, passing_end}
 use Rattle.runs.proofs.walks.pass.Goals as goal
 
 pub loop-x-init : goal.loop-x-init

@@ -1,6 +1,5 @@
 use Prim.Native.Nat.{◌-◌}
-use native.Mathlib.Omega.{arith}
-use Rattle.runs.proofs.Passing.{Passing, passing_start, passing_marks, passing_ranks, passing_next, passing_stop, passing_end}
+use Rattle.runs.proofs.Passing.{Passing}
 use Rattle.runs.proofs.walks.pass.Given as goal
 
 abbrev pub invariant-loop-x : goal.invariant-loop-x

@@ -1,7 +1,6 @@
 -- `decoded` meets its contract. Assumes nothing.
 use mathlib.Core.Path.{refl}
 use Rattle.sheets.specs.Steps.{layout_from}
-use borrow.Author.Rules.{rules}
 use Rattle.sheets.proofs.answer.decoded.Goals as goal
 
 pub returns : goal.returns

@@ -3,7 +3,6 @@ use native.Mathlib.Omega.{arith}
 use mathlib.Core.Path.{◌∙◌}
 use Rattle.families.proofs.Flats.{ok_wider}
 use Rattle.sheets.proofs.Answers.{judged_even, judged_uneven}
-use borrow.Author.Rules.{rules}
 use Rattle.sheets.proofs.answer.judge.Goals as goal
 
 pub pattern_size-size-requires : goal.pattern_size-size-requires

@@ -1,7 +1,6 @@
 -- `refuse` meets its contract. Assumes nothing.
 use mathlib.Core.Path.{refl}
 use Rattle.sheets.specs.Sheet.{refusal}
-use borrow.Author.Rules.{rules}
 use Rattle.sheets.proofs.answer.refuse.Goals as goal
 
 pub returns : goal.returns

@@ -1,7 +1,6 @@
 -- `add_element` meets its contract. Assumes nothing.
 use native.Mathlib.Omega.{arith}
 use Rattle.sheets.proofs.ElementSteps.{element_added}
-use borrow.Author.Rules.{rules}
 use Rattle.sheets.proofs.elements.add_element.Goals as goal
 
 pub returns-then-next-step : goal.returns-then-next-step

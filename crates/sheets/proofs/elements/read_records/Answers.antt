@@ -8,7 +8,6 @@ use Rattle.sheets.specs.Steps.{start, Progressed, WrittenAll}
 use Rattle.sheets.proofs.Numbered.{elements_numbered}
 use Rattle.sheets.proofs.SheetSteps.{header_refused, header_there, elements_refused, trailing_refused, all_read, ProgressGot, progress_got, progress_refused}
 use Rattle.sheets.proofs.ElementSteps.{refused_on_all}
-use borrow.Author.Rules.{rules}
 use Rattle.sheets.proofs.elements.read_records.Goals as goal
 use Rattle.sheets.proofs.elements.read_records.Goals.{After-read_elements-all, After-record_fault-fault}
 

@@ -1,7 +1,4 @@
 -- `first_uneven` meets its contract: the scan of the painted table ends at the first uneven offset. Assumes nothing.
-use Prim.Native.Nat.{ℕ}
-use mathlib.Core.List.{List}
-use borrow.Author.Rules.{rules}
 use Rattle.families.specs.Decoded.{trees_of}
 use Rattle.sheets.proofs.Unevens.{Searched, searched, found_inside, found_hole, found_overlap, found_none}
 use Rattle.sheets.proofs.pattern.first_uneven.Goals as goal

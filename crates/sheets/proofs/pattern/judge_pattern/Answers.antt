@@ -1,6 +1,5 @@
 -- `judge_pattern` meets its contract: either table has a place for every offset that an element can have. Assumes nothing.
 use native.Mathlib.Omega.{arith}
-use borrow.Author.Rules.{rules}
 use Rattle.sheets.proofs.Unevens.{room_enough}
 use Rattle.sheets.proofs.pattern.judge_pattern.Goals as goal
 

@@ -1,7 +1,6 @@
 -- `pattern_size` meets its contract. The loop's invariant: the sum is the size of the elements before e. Assumes nothing.
-use Prim.Native.Nat.{◌-◌}
 use native.Mathlib.Omega.{arith}
-use Rattle.sheets.proofs.Summing.{Summed, summed_none, summed_small, summed_asks, size_small, summed_next, summed_all}
+use Rattle.sheets.proofs.Summing.{summed_none, summed_small, summed_asks, size_small, summed_next, summed_all}
 use Rattle.sheets.proofs.pattern.pattern_size.Goals as goal
 
 pub loop-e-init : goal.loop-e-init

@@ -1,9 +1,7 @@
 -- `scan` meets its contract. The loop's invariant: every entry that was passed stands for one element. Assumes nothing.
 use mathlib.Core.Path.{refl}
-use mathlib.Core.Logic.{⊎_elim}
-use Prim.Native.Nat.{◌-◌}
 use native.Mathlib.Omega.{arith}
-use Rattle.sheets.proofs.Scanning.{Scan, scan_start, scan_next, scan_found, scan_all}
+use Rattle.sheets.proofs.Scanning.{scan_start, scan_next, scan_found, scan_all}
 use Rattle.sheets.proofs.pattern.scan.Goals as goal
 use Rattle.sheets.proofs.pattern.scan.Goals.{else-table-end, then-table-end}
 

@@ -1,8 +1,5 @@
-use mathlib.Core.Path.{refl}
-use mathlib.Core.Logic.{⊎_elim}
 use Prim.Native.Nat.{◌-◌}
-use native.Mathlib.Omega.{arith}
-use Rattle.sheets.proofs.Scanning.{Scan, scan_start, scan_next, scan_found, scan_all}
+use Rattle.sheets.proofs.Scanning.{Scan}
 use Rattle.sheets.proofs.pattern.scan.Given as goal
 
 abbrev pub invariant-loop-i : goal.invariant-loop-i

@@ -1,7 +1,6 @@
 -- `element_fault` meets its contract. Assumes nothing.
 use native.Mathlib.Omega.{arith}
 use Rattle.sheets.proofs.Verdicts.{element_none, element_good}
-use borrow.Author.Rules.{rules}
 use Rattle.sheets.proofs.records.element_fault.Goals as goal
 
 pub returns-then-le16_at-eq0 : goal.returns-then-le16_at-eq0

@@ -5,7 +5,6 @@ use native.Mathlib.Omega.{arith}
 use Rattle.sheets.specs.Records.{bad_segment}
 use Rattle.sheets.proofs.Verdicts.{family_many, family_segment, family_span, family_order, family_leaf, family_deep, family_good}
 use Rattle.sheets.proofs.Faults.{segment_taken}
-use borrow.Author.Rules.{rules}
 use Rattle.sheets.proofs.records.family_fault.Goals as goal
 use Rattle.sheets.proofs.records.family_fault.Goals.{Else-bad_segment}
 

@@ -1,7 +1,6 @@
 -- `family_record` meets its contract. Assumes nothing.
 use Rattle.sheets.specs.Records.{family_record}
 use mathlib.Core.Path.{refl}
-use borrow.Author.Rules.{rules}
 use Rattle.sheets.proofs.records.family_record.Goals as goal
 
 pub returns : goal.returns

@@ -5,7 +5,6 @@ use Prim.Native.Nat.{◌+◌}
 use Rattle.sheets.specs.Bytes.{le16}
 use Rattle.sheets.specs.Records.{length_of}
 use Rattle.sheets.proofs.Verdicts.{head_kind, head_length, head_cut, head_good}
-use borrow.Author.Rules.{rules}
 use Rattle.sheets.proofs.records.head_fault.Goals as goal
 use Rattle.sheets.proofs.records.head_fault.Goals.{Else-kind-due, Else-le16_at-long}
 

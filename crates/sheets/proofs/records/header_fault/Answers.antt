@@ -1,7 +1,6 @@
 -- `header_fault` meets its contract. Assumes nothing.
 use native.Mathlib.Omega.{arith}
 use Rattle.sheets.proofs.Verdicts.{header_none, header_many, header_good}
-use borrow.Author.Rules.{rules}
 use Rattle.sheets.proofs.records.header_fault.Goals as goal
 
 pub returns-then-count-eq0 : goal.returns-then-count-eq0

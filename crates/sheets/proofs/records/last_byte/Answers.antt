@@ -1,7 +1,6 @@
 -- `last_byte` meets its contract. Assumes nothing.
 use native.Mathlib.Omega.{arith}
 use Rattle.sheets.proofs.Verdicts.{last_fits}
-use borrow.Author.Rules.{rules}
 use Rattle.sheets.proofs.records.last_byte.Goals as goal
 
 pub overflow_mul-result : goal.overflow_mul-result

@@ -6,7 +6,6 @@ use lib.ListN.{length}
 use Rattle.sheets.specs.Records.{length_of}
 use Rattle.sheets.proofs.Verdicts.{header_length, element_length, family_length, head_short, record_head, record_body, record_unknown, body_header, body_element, body_family}
 use Rattle.sheets.proofs.Faults.{head_done}
-use borrow.Author.Rules.{rules}
 use Rattle.sheets.proofs.records.record_fault.Goals as goal
 use Rattle.sheets.proofs.records.record_fault.Goals.{Else-head-ne0, Else-head-ne0-2, Else-head-ne0-3}
 

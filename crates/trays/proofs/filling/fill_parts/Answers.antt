@@ -1,9 +1,6 @@
 -- `fill_parts` meets its contract. The loop's invariant: the chosen parts below j are filled. Assumes nothing.
-use Prim.Native.Nat.{◌-◌}
 use native.Mathlib.Omega.{arith}
-use Rattle.maps.specs.Selected.{elements_of}
-use Rattle.parts.specs.Pieces.{bytes_of, elements_by}
-use Rattle.trays.proofs.Parting.{Parted, parted_none, parted_long, parted_all, targets_once}
+use Rattle.trays.proofs.Parting.{parted_none, parted_long, parted_all, targets_once}
 use Rattle.trays.proofs.Parting.{parting_element, parting_held, parting_fits, parting_asks, parting_next}
 use Rattle.trays.proofs.filling.fill_parts.Goals as goal
 

@@ -1,9 +1,7 @@
 use Prim.Native.Nat.{◌-◌}
-use native.Mathlib.Omega.{arith}
 use Rattle.maps.specs.Selected.{elements_of}
 use Rattle.parts.specs.Pieces.{bytes_of, elements_by}
-use Rattle.trays.proofs.Parting.{Parted, parted_none, parted_long, parted_all, targets_once}
-use Rattle.trays.proofs.Parting.{parting_element, parting_held, parting_fits, parting_asks, parting_next}
+use Rattle.trays.proofs.Parting.{Parted}
 use Rattle.trays.proofs.filling.fill_parts.Given as goal
 
 abbrev pub invariant-loop-j : goal.invariant-loop-j

@@ -1,6 +1,5 @@
 -- `move_by_tables` meets its contract. Assumes nothing.
 use mathlib.Core.Path.{refl}
-use borrow.Author.Rules.{rules}
 use Rattle.trays.proofs.moving.move_by_tables.Goals as goal
 
 pub put_targets-requires : goal.put_targets-requires

@@ -1,7 +1,6 @@
 -- `move_chosen` meets its contract: either size of tables has room for a pattern of each layout. Assumes nothing.
 use mathlib.Core.Path.{refl}
 use native.Mathlib.Omega.{arith}
-use borrow.Author.Rules.{rules}
 use Rattle.trays.proofs.Noting.{fits_always, moves_ask, moved_empty}
 use Rattle.trays.proofs.moving.move_chosen.Goals as goal
 

@@ -1,6 +1,5 @@
 -- `move_pair` meets its contract. Assumes nothing.
 use Rattle.trays.proofs.Noting.{pair_chosen, moved_pair}
-use borrow.Author.Rules.{rules}
 use Rattle.trays.proofs.moving.move_pair.Goals as goal
 
 pub move_chosen-requires : goal.move_chosen-requires

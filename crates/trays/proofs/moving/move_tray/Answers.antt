@@ -1,6 +1,5 @@
 -- `move_tray` meets its contract. Assumes nothing.
 use Rattle.trays.proofs.Noting.{every_chosen, moved_whole}
-use borrow.Author.Rules.{rules}
 use Rattle.trays.proofs.moving.move_tray.Goals as goal
 
 pub move_chosen-requires : goal.move_chosen-requires

@@ -1,5 +1,4 @@
 -- `put_sources` meets its contract. Assumes nothing.
-use borrow.Author.Rules.{rules}
 use Rattle.trays.proofs.Noting.{sources_noted, counted_ask}
 use Rattle.trays.proofs.moving.put_sources.Goals as goal
 

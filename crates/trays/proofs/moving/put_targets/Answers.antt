@@ -1,5 +1,4 @@
 -- `put_targets` meets its contract. Assumes nothing.
-use borrow.Author.Rules.{rules}
 use Rattle.trays.proofs.Noting.{targets_noted}
 use Rattle.trays.proofs.moving.put_targets.Goals as goal
 

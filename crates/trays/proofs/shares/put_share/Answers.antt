@@ -1,5 +1,4 @@
 -- `put_share` meets its contract. Assumes nothing.
-use borrow.Author.Rules.{rules}
 use Rattle.trays.proofs.Allotting.{four_stored}
 use Rattle.trays.proofs.shares.put_share.Goals as goal
 

@@ -1,6 +1,5 @@
 -- `share_of` meets its contract. Assumes nothing.
 use native.Mathlib.Omega.{arith}
-use borrow.Author.Rules.{rules}
 use Rattle.counting.proofs.Counts.{count_mono}
 use Rattle.maps.specs.Selected.{belongs}
 use Rattle.trays.proofs.shares.share_of.Goals as goal

@@ -1,11 +1,9 @@
 -- `share_out` meets its contract. The loop's invariant: the shares of the elements below e stand in the row. Assumes nothing.
 use Prim.Native.Nat.{◌+◌, ◌-◌, ◌*◌}
 use native.Mathlib.Omega.{arith}
-use Rattle.maps.specs.Selected.{elements_of}
-use Rattle.parts.specs.Pieces.{bytes_of}
 use Rattle.trays.proofs.Layouts.{elements_length}
 use Rattle.trays.proofs.Choosing.{chosen_ok}
-use Rattle.trays.proofs.Allotting.{Allotted, allotted_none, allotted_all, allotting_held, allotting_part, allotting_fits, allotting_next}
+use Rattle.trays.proofs.Allotting.{allotted_none, allotted_all, allotting_held, allotting_part, allotting_fits, allotting_next}
 use Rattle.trays.proofs.shares.share_out.Goals as goal
 
 pub loop-e-init : goal.loop-e-init

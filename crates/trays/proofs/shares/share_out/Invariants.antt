@@ -1,10 +1,7 @@
-use Prim.Native.Nat.{◌+◌, ◌-◌, ◌*◌}
-use native.Mathlib.Omega.{arith}
+use Prim.Native.Nat.{◌-◌}
 use Rattle.maps.specs.Selected.{elements_of}
 use Rattle.parts.specs.Pieces.{bytes_of}
-use Rattle.trays.proofs.Layouts.{elements_length}
-use Rattle.trays.proofs.Choosing.{chosen_ok}
-use Rattle.trays.proofs.Allotting.{Allotted, allotted_none, allotted_all, allotting_held, allotting_part, allotting_fits, allotting_next}
+use Rattle.trays.proofs.Allotting.{Allotted}
 use Rattle.trays.proofs.shares.share_out.Given as goal
 
 abbrev pub invariant-loop-e : goal.invariant-loop-e

@@ -1,7 +1,6 @@
 -- `fill_ranks` meets its contract. The loop's invariant: how often each owner was met, and the ranks of the places behind. Assumes nothing.
-use Prim.Native.Nat.{◌-◌}
 use native.Mathlib.Omega.{arith}
-use Rattle.trays.proofs.Ranking.{Ranking, Rankable, ranking_start, ranking_end, ranking_asks, ranking_next}
+use Rattle.trays.proofs.Ranking.{Rankable, ranking_start, ranking_end, ranking_asks, ranking_next}
 use Rattle.trays.proofs.tables.fill_ranks.Goals as goal
 use Rattle.trays.proofs.tables.fill_ranks.Goals.{After-slice_known-1}
 

@@ -1,6 +1,5 @@
 use Prim.Native.Nat.{◌-◌}
-use native.Mathlib.Omega.{arith}
-use Rattle.trays.proofs.Ranking.{Ranking, Rankable, ranking_start, ranking_end, ranking_asks, ranking_next}
+use Rattle.trays.proofs.Ranking.{Ranking}
 use Rattle.trays.proofs.tables.fill_ranks.Given as goal
 
 abbrev pub invariant-loop-place : goal.invariant-loop-place

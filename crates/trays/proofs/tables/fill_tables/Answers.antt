@@ -1,5 +1,4 @@
 -- `fill_tables` meets its contract: the table of owners stands for the elements. Assumes nothing.
-use borrow.Author.Rules.{rules}
 use Rattle.trays.proofs.Owners.{owners_nexts, owners_tables}
 use Rattle.trays.proofs.tables.fill_tables.Goals as goal
 

@@ -1,12 +1,9 @@
 -- `fits_all` meets its contract. The loop's invariant: the elements so far fit. Assumes nothing.
 use mathlib.Core.Bool.{true≢false}
 use mathlib.Core.Path.{sym}
-use Prim.Native.Nat.{◌-◌}
-use borrow.Author.Rules.{rules}
-use borrow.Author.Tests.{not-false}
 use native.Mathlib.Omega.{arith}
 use Rattle.trays.proofs.Choosing.{chosen_asks, chosen_ok}
-use Rattle.trays.proofs.Rooming.{Rooming, rooming_start, rooming_end, rooming_next}
+use Rattle.trays.proofs.Rooming.{rooming_start, rooming_end, rooming_next}
 use Rattle.trays.proofs.tables.fits_all.Goals as goal
 
 pub loop-e-init : goal.loop-e-init

@@ -1,9 +1,7 @@
 -- `put_nexts` meets its contract. The loop's invariant: the first places of the elements so far are written down. Assumes nothing.
-use Prim.Native.Nat.{◌-◌}
-use borrow.Author.Rules.{rules}
 use native.Mathlib.Omega.{arith}
 use Rattle.trays.proofs.Choosing.{chosen_asks, chosen_ok}
-use Rattle.trays.proofs.Firsts.{Firsts, firsts_start, firsts_end, FirstAt, first_at, firsts_small, firsts_room, firsts_next}
+use Rattle.trays.proofs.Firsts.{firsts_start, firsts_end, FirstAt, first_at, firsts_small, firsts_room, firsts_next}
 use Rattle.trays.proofs.tables.put_nexts.Goals as goal
 use Rattle.trays.proofs.tables.put_nexts.Goals.{After-struct_known-in-loop-e-1}
 
