@@ -6,7 +6,7 @@ ghost use Rattle.answers.specs.Lines.{Room};
 ghost use Rattle.answers.specs.Replies.{leaving, reply_to};
 ghost use Rattle.answers.specs.Replies.{reply};
 
-use crate::{asking, carrying, frames, lines, writing};
+use crate::{asking, carrying, frames, line, writing};
 use said::Answer;
 
 pub const CHECK: u8 = 1;
@@ -70,7 +70,7 @@ fn put_reply(frame: &[u8], into: &mut [u8], text: &mut [u8]) -> usize
     let Reply::Told(told) = reply_to(frame, into) else {
         return 0;
     };
-    lines::put_line(told, into, text)
+    line::put_line(told, into, text)
 }
 
 // Puts the frame's line into `text`, and answers how long it is: 0 where the frame is not whole or its call is unknown. `space` is for the destination buffer.

@@ -2,7 +2,7 @@
 // script, asks the library.
 //
 // `frames` finds the parts of a frame, `numbers` reads and writes numbers of 64 bits, `calls` makes the call, with `asking` for those that write nothing,
-// `carrying` for those that carry bytes and `writing` for those that write a list or a text; `lines` writes the line. All are functions on slices and are
+// `carrying` for those that carry bytes and `writing` for those that write a list or a text; `line` writes the line. All are functions on slices and are
 // proved to do just what their definitions say. No contract can say what is read or written, so this file is proved safe, and proved to end.
 #![tactic(auto)]
 
@@ -10,7 +10,7 @@ mod asking;
 mod calls;
 mod carrying;
 mod frames;
-mod lines;
+mod line;
 mod numbers;
 mod writing;
 
@@ -82,6 +82,6 @@ fn answer_all(space: &mut [u8], buffer: &mut [u8], text: &mut [u8])
 fn main() {
     let mut space = [0u8; frames::MOST];
     let mut buffer = [0u8; frames::MOST];
-    let mut text = [0u8; lines::LONGEST];
+    let mut text = [0u8; line::LONGEST];
     answer_all(&mut space, &mut buffer, &mut text);
 }

@@ -1,7 +1,7 @@
 -- `put_buffer` meets its contract. Assumes nothing.
 use native.Mathlib.Omega.{arith}
 use Rattle.answers.proofs.Hexes.{put_dash, put_full}
-use Rattle.answers.proofs.lines.put_buffer.Goals as goal
+use Rattle.answers.proofs.line.put_buffer.Goals as goal
 
 pub returns-then-bytes-eq0 : goal.returns-then-bytes-eq0
 returns-then-bytes-eq0 c = put_dash _ _ _ c.if-bytes-eq0.true (omega arith)

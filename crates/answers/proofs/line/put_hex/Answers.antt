@@ -3,8 +3,8 @@ use Prim.Native.Nat.{◌+◌, ◌<◌}
 use native.Mathlib.Omega.{arith}
 use lib.ListN.{length, length-set}
 use Rattle.answers.proofs.Hexes.{spelled_none, spelled_room, spelled_more, spelled_all}
-use Rattle.answers.proofs.lines.put_hex.Goals as goal
-use Rattle.answers.proofs.lines.put_hex.Goals.{After-hex_digit}
+use Rattle.answers.proofs.line.put_hex.Goals as goal
+use Rattle.answers.proofs.line.put_hex.Goals.{After-hex_digit}
 
 -- two digits have room
 room : (c : After-hex_digit) → c.loop-i.end + 1 < length c.loop-i.text
