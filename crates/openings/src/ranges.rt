@@ -20,6 +20,7 @@ pub fn pair_fault(m: u64, i: u64, n: u64, j: u64) -> u8
 }
 
 // Of one file offset, where the displacement is `from`.
+#[tactic(auto, using(crate::proofs::Faults::offset_before, crate::proofs::Faults::offset_far, crate::proofs::Faults::offset_fine))]
 pub fn offset_fault(from: u32, x: FileOffset) -> u8
     ensures { result ≡ first_fault (offset_tests from x.0) }
 {
@@ -33,6 +34,7 @@ pub fn offset_fault(from: u32, x: FileOffset) -> u8
 }
 
 // Of an interval or a window from a to b, where b may be `most`.
+#[tactic(auto, using(crate::proofs::Faults::range_back, crate::proofs::Faults::range_before, crate::proofs::Faults::range_far, crate::proofs::Faults::range_fine))]
 pub fn range_fault(most: u64, from: u32, a: FileOffset, b: FileOffset) -> u8
     ensures { result ≡ first_fault (range_tests most from a.0 b.0) }
 {
@@ -48,6 +50,7 @@ pub fn range_fault(most: u64, from: u32, a: FileOffset, b: FileOffset) -> u8
 }
 
 // Of the lengths of two buffers, each with the one that is due.
+#[tactic(auto, using(crate::proofs::Faults::buffer_first, crate::proofs::Faults::buffer_second, crate::proofs::Faults::buffer_fine))]
 pub fn buffer_fault(one: u64, due1: u64, two: u64, due2: u64) -> u8
     ensures { result ≡ first_fault (buffer_tests one due1 two due2) }
 {

@@ -69,7 +69,8 @@ pub fn pass(
     while x < stop {
         let place1 = one.place;
         let place2 = two.place;
-        if in_both(table1, place1, table2, place2) != wanted {
+        let both = in_both(table1, place1, table2, place2);
+        if both != wanted {
             return Walk {
                 x: FileOffset(x),
                 one,

@@ -42,6 +42,7 @@ pub fn head_fault(sheet: &[u8], at: usize, kind: u32, due: u32, long: u32) -> u8
 }
 
 // A header's body: the count of elements is 1 to 16.
+#[tactic(auto, using(crate::proofs::Verdicts::header_none, crate::proofs::Verdicts::header_many, crate::proofs::Verdicts::header_good))]
 pub fn header_fault(sheet: &[u8], at: usize) -> u8
     requires { at + 10 ≤ length sheet.now }
     ensures { result ≡ first_fault (header_tests sheet.now at) }

@@ -6,13 +6,13 @@ use Rattle.runs.proofs.walks.pass.Goals as goal
 pub loop-x-init : goal.loop-x-init
 loop-x-init c = passing_start _ c.requires
 
-pub in_both-requires : goal.in_both-requires
-in_both-requires c =
+pub in_both-both-requires : goal.in_both-both-requires
+in_both-both-requires c =
     let p = (passing_marks c.loop-x.invariant) in
     record { fact_1 = p.0; fact_2 = p.1 }
 
-pub returns-then-in_both-wanted : goal.returns-then-in_both-wanted
-returns-then-in_both-wanted c = passing_stop c.loop-x.invariant _ c.in_both.ensures c.if-in_both-wanted.true
+pub returns-then-both-wanted : goal.returns-then-both-wanted
+returns-then-both-wanted c = passing_stop c.loop-x.invariant _ c.in_both-both.ensures c.if-both-wanted.true
 
 pub next_side-one-requires : goal.next_side-one-requires
 next_side-one-requires c =
@@ -27,7 +27,7 @@ next_side-two-requires c =
 pub loop-x-preserved : goal.loop-x-preserved
 loop-x-preserved c =
     let P = c.loop-x.invariant in
-    passing_next P _ c.in_both.ensures c.if-in_both-wanted.false (omega arith) _ _ c.next_side-one.ensures c.next_side-two.ensures
+    passing_next P _ c.in_both-both.ensures c.if-both-wanted.false (omega arith) _ _ c.next_side-one.ensures c.next_side-two.ensures
 
 pub returns : goal.returns
 returns c = passing_end c.loop-x.invariant (omega arith)
