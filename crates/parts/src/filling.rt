@@ -38,8 +38,9 @@ pub fn fill_part(
     while walk.at < n {
         let run = moves::run_here(runs, walk, window);
         let piece = pieces::piece_at(cycle, owners, keeps, window, walk.at, run);
+        let owner = piece.owner;
         let mut step = piece.len;
-        if only == 0 || only == piece.owner {
+        if only == 0 || only == owner {
             let source = pieces::source_of(ranks, shares, piece);
             copies::copy_run(tray, source.0 as usize, part, walk.packed, piece.len);
             if only != 0 {

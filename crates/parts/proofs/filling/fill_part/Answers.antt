@@ -10,7 +10,7 @@ use Rattle.parts.proofs.Piecing.{piece_asks, step_just}
 use Rattle.parts.proofs.Renewing.{renewing_start, renewing_end, AtPiece, source_asked, copy_asked, beyond_asked, far_least, far_over}
 use Rattle.parts.proofs.Renewing.{piece_forward, piece_copied, piece_passed}
 use Rattle.parts.proofs.filling.fill_part.Goals as goal
-use Rattle.parts.proofs.filling.fill_part.Goals.{After-piece_at-piece, then-only-eq0+then-only-ne0, then-only-eq0+else-only-ne0, else-only-eq0+else-only-piece}
+use Rattle.parts.proofs.filling.fill_part.Goals.{After-piece_at-piece, then-only-eq0+then-only-ne0, then-only-eq0+else-only-ne0, else-only-eq0+else-only-owner}
 
 -- what is known at a piece
 here : (c : After-piece_at-piece) →
@@ -73,7 +73,7 @@ loop-walk-smaller c =
     let least : c.piece_at-piece.result.len ≤ c.if-only-eq0.step = elim c.if-only-eq0.branch [
       | then-only-eq0+then-only-ne0 w ↦ rw w.step-is (far_least A _ (w.beyond-step.ensures.fact_1, w.beyond-step.ensures.fact_2))
       | then-only-eq0+else-only-ne0 w ↦ omega arith
-      | else-only-eq0+else-only-piece w ↦ omega arith
+      | else-only-eq0+else-only-owner w ↦ omega arith
     ] in
     omega (arith, piece_forward A _ c.further-walk.ensures least, A.inside, A.long)
 
@@ -88,7 +88,7 @@ loop-walk-preserved c =
           piece_copied A _ on (rw w.step-is far) own _ w.source_of-source.ensures _ (w.part-is ∙ w.copy_run.ensures)
       | then-only-eq0+else-only-ne0 w ↦
           piece_copied A _ on (step_just _ _ _ w.step-is) (chosen _ _ w.then-only-eq0.either) _ w.source_of-source.ensures _ (w.part-is ∙ w.copy_run.ensures)
-      | else-only-eq0+else-only-piece w ↦ piece_passed A _ on (step_just _ _ _ w.step-is) w.if-only-eq0.false w.if-only-piece.false _ w.part-is
+      | else-only-eq0+else-only-owner w ↦ piece_passed A _ on (step_just _ _ _ w.step-is) w.if-only-eq0.false w.if-only-owner.false _ w.part-is
     ]
 
 pub returns : goal.returns
