@@ -82,6 +82,7 @@ impl Family {
         // line 2: the segments before this one, and the place in it
         let rank = segment * len + place;
         // the cap at n segments, SIZE_f of section 4.6. Mended: the page counts on behind the last segment
-        rank.min(u64::from(self.n) * len)
+        let size = u64::from(self.n) * len;
+        rank.min(size)
     }
 }

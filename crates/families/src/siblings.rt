@@ -4,9 +4,11 @@ ghost use Rattle.families.specs.Decoded.{family_in, forest_at};
 ghost use Rattle.families.specs.Props.{WF-prop};
 
 use crate::nested::Nested;
+use crate::painting::paint_all;
 use crate::{Family, Layout};
 
 // Sibling families, each followed by its descendants: `count` of them from index `first` on, `levels` levels deep at most.
+// `ruled` has the bound of a table and not that of 32 bits, which `inverse` alone asks for: `owners` takes a table of any length.
 #[derive(Clone, Copy)]
 pub struct Siblings<'a> {
     pub families: &'a [Family],
@@ -137,7 +139,7 @@ impl<'a> Siblings<'a> {
         ensures { table.new ≡ painted (inner (forest_of self.now)) me table.old }
     {
         if self.count == 0 {
-            crate::painting::paint_all(table, me);
+            paint_all(table, me);
             return;
         }
         let mut rest = *self;
