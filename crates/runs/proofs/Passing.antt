@@ -1,10 +1,11 @@
 -- The loop of `pass`: every offset that was passed is as wanted. Assumes nothing.
 use mathlib.Core.Path.{◌≡◌, refl, sym, ap, ap₂, ◌∙◌}
-use mathlib.Core.Bool.{Bool, true, false, ◌&&◌, beq}
+use mathlib.Core.Bool.{Bool, true, false, ◌&&◌, not, beq}
 use mathlib.Core.List.{List}
 use mathlib.Core.Logic.{⊎_elim}
 use Prim.Native.Nat.{ℕ, ◌+◌, ◌-◌, ◌^◌, ◌≤◌, ◌<◌}
 use native.Mathlib.Omega.{arith}
+use borrow.Author.Tests.{not-true, not-false}
 use Rattle.counting.proofs.Cases.{lt_or_le}
 use Rattle.counting.proofs.Stretches.{stretch_is}
 use Rattle.maps.specs.declared.Selection.{Selection}
@@ -70,13 +71,13 @@ module _ {s1 s2 : Selection} {table1 table2 : List ℕ} {wanted : Bool} {end fro
     here : shared x ≡ b
     here = ap₂ ◌&&◌ (selected_here P.one_stands) (selected_here P.two_stands) ∙ sym e
 
-    here_wanted : beq b wanted ≡ true → is wanted (shared x) ≡ true
-    here_wanted w = ap (is wanted) here ∙ sym (compared wanted b) ∙ w
+    here_wanted : not (beq b wanted) ≡ false → is wanted (shared x) ≡ true
+    here_wanted w = ap (is wanted) here ∙ sym (compared wanted b) ∙ not-false _ w
 
-    here_unwanted : beq b wanted ≡ false → is wanted (shared x) ≡ false
-    here_unwanted w = ap (is wanted) here ∙ sym (compared wanted b) ∙ w
+    here_unwanted : not (beq b wanted) ≡ true → is wanted (shared x) ≡ false
+    here_unwanted w = ap (is wanted) here ∙ sym (compared wanted b) ∙ not-true _ w
 
-    pub passing_next : beq b wanted ≡ true → x < end
+    pub passing_next : not (beq b wanted) ≡ false → x < end
         → (one' two' : Side) → one' ≡ next_side table1 s1.period one → two' ≡ next_side table2 s2.period two
         → Passing s1 s2 table1 table2 wanted end from (x + 1) one' two'
     passing_next w l one' two' f g = record {
@@ -88,7 +89,7 @@ module _ {s1 s2 : Selection} {table1 table2 : List ℕ} {wanted : Bool} {end fro
       passed = λ y u v. ⊎_elim (P.passed y u) (λ k. ap (λ (i : ℕ). is wanted (shared i)) (let z : y ≡ x = omega arith in z) ∙ here_wanted w) (lt_or_le y x);
     }
 
-    pub passing_stop : beq b wanted ≡ false → Passed s1 s2 table1 table2 wanted end from (walk_at x one two)
+    pub passing_stop : not (beq b wanted) ≡ true → Passed s1 s2 table1 table2 wanted end from (walk_at x one two)
     passing_stop n = passing_there (λ _. here_unwanted n)
 
   pub passing_end : end ≤ x → Passed s1 s2 table1 table2 wanted end from (walk_at x one two)

@@ -38,7 +38,11 @@ impl<'a> Track<'a> {
     {
         let mut walk = from;
         // no count: the walk ends where it finds an offset that is not wanted
-        while walk.x.0 < self.end.0 && self.both(walk) == wanted {
+        while walk.x.0 < self.end.0 {
+            let both = self.both(walk);
+            if both != wanted {
+                return walk;
+            }
             walk = Walk {
                 x: FileOffset(walk.x.0 + 1),
                 one: self.one.next(walk.one),

@@ -6,11 +6,11 @@ use Rattle.runs.proofs.track.Track.pass.Goals as goal
 pub loop-walk-init : goal.loop-walk-init
 loop-walk-init c = passing_start _ c.requires
 
-pub both-requires-clause-one : goal.both-requires-clause-one
-both-requires-clause-one c = (passing_marks c.loop-walk.invariant).0
+pub both-both-requires-clause-one : goal.both-both-requires-clause-one
+both-both-requires-clause-one c = (passing_marks c.loop-walk.invariant).0
 
-pub both-requires-clause-two : goal.both-requires-clause-two
-both-requires-clause-two c = (passing_marks c.loop-walk.invariant).1
+pub both-both-requires-clause-two : goal.both-both-requires-clause-two
+both-both-requires-clause-two c = (passing_marks c.loop-walk.invariant).1
 
 pub next-requires-clause-marked : goal.next-requires-clause-marked
 next-requires-clause-marked c = (passing_marks c.loop-walk.invariant).0
@@ -29,10 +29,10 @@ loop-walk-smaller c = omega (arith, c.loop-walk-test.true)
 
 pub loop-walk-preserved : goal.loop-walk-preserved
 loop-walk-preserved c =
-    passing_next c.loop-walk.invariant _ c.both.ensures c.if-both-wanted.true c.loop-walk-test.true _ _ c.next.ensures c.next-in-loop-walk.ensures
+    passing_next c.loop-walk.invariant _ c.both-both.ensures c.if-both-wanted.false c.loop-walk-test.true _ _ c.next.ensures c.next-in-loop-walk.ensures
 
-pub returns-else-both-wanted : goal.returns-else-both-wanted
-returns-else-both-wanted c = passing_stop c.loop-walk.invariant _ c.both.ensures c.if-both-wanted.false
+pub returns-then-both-wanted : goal.returns-then-both-wanted
+returns-then-both-wanted c = passing_stop c.loop-walk.invariant _ c.both-both.ensures c.if-both-wanted.true
 
-pub returns-after-loop-walk : goal.returns-after-loop-walk
-returns-after-loop-walk c = passing_end c.loop-walk.invariant (omega (arith, c.loop-walk-test.false))
+pub returns : goal.returns
+returns c = passing_end c.loop-walk.invariant (omega (arith, c.loop-walk-test.false))
