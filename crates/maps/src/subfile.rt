@@ -8,6 +8,7 @@ use crate::Selection;
 use families::{FileOffset, SubfileOffset};
 
 // A selection with the row that its families stand in, which is lent.
+// A type of its own, since `selection_of` answers for every layout that meets the sheet rules, also for one that no mapping takes.
 #[derive(Clone, Copy)]
 pub struct Subfile<'a> {
     pub selection: Selection,
