@@ -70,7 +70,7 @@ module _ (t : Layout) (size : ℕ) (P : PatternOk t size) (e : ℕ) (h : e < t.e
   unfolding selection_of
   selection_ok = record {
     sound = element_sound 4 65535 t P.ok e h (omega arith);
-    size = (size_below (tree_of 4 t e) size none_past);
+    size = size_below (tree_of 4 t e) size none_past;
     some = element_some 4 65535 t P.ok e h;
     short = omega (arith, P.most);
   }
