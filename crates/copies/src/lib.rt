@@ -45,6 +45,7 @@ fn copy_ends<const CHUNK: usize>(src: &[u8], from: usize, dst: &mut [u8], to: us
     requires writes { to + n ≤ length dst.old }
     requires one { CHUNK ≤ n }
     requires two { n ≤ CHUNK + CHUNK }
+    requires small { CHUNK ≤ 64 }
     ensures { dst.new ≡ paste dst.old to (drop from src.now) n }
 {
     let last = n - CHUNK;
@@ -52,13 +53,26 @@ fn copy_ends<const CHUNK: usize>(src: &[u8], from: usize, dst: &mut [u8], to: us
     copy_chunk::<CHUNK>(src, from + last, dst, to + last);
 }
 
-// One chunk.
+// One chunk, held between reading and writing: the compiler, which cannot see that src and dst lie apart, makes wide moves only where
+// no byte is written before the last is read. The library's `copy_from_slice` calls for every chunk, which costs three times as much.
 fn copy_chunk<const CHUNK: usize>(src: &[u8], from: usize, dst: &mut [u8], to: usize)
     requires reads { from + CHUNK ≤ length src.now }
     requires writes { to + CHUNK ≤ length dst.old }
+    requires small { CHUNK ≤ 64 }
     ensures { dst.new ≡ paste dst.old to (drop from src.now) CHUNK }
 {
-    let read = from + CHUNK;
-    let written = to + CHUNK;
-    dst[to..written].copy_from_slice(&src[from..read]);
+    let mut held = [0u8; CHUNK];
+    copy_bytes(src, from, &mut held, 0, CHUNK);
+    copy_bytes(&held, 0, dst, to, CHUNK);
+}
+
+// Byte by byte: what a chunk is made of.
+fn copy_bytes(src: &[u8], from: usize, dst: &mut [u8], to: usize, n: usize)
+    requires reads { from + n ≤ length src.now }
+    requires writes { to + n ≤ length dst.old }
+    ensures { dst.new ≡ paste dst.old to (drop from src.now) n }
+{
+    for i in 0..n {
+        dst[to + i] = src[from + i];
+    }
 }
