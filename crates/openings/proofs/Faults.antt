@@ -139,3 +139,7 @@ module _ (from a b one two : ℕ) where
       let far = no_fault FAR _ _ (omega arith) before.1 in
       let B = buffer_known one (b - a) two (b - a) far.1 in
       (ltb-false b a back.0, ltb-false a from before.0, ltb-false LIMIT b far.0, B.0, B.1)
+
+  pub trays_fine : a ≤ b → from ≤ a → b ≤ LIMIT → one ≡ b - a → two ≡ b - a → 0 ≡ first_fault (tray_tests from a b one two)
+  unfolding first_fault
+  trays_fine forward after near e f = rw (le-ltb _ _ forward, le-ltb _ _ after, le-ltb _ _ near, eq-eqb _ _ e, eq-eqb _ _ f) refl

@@ -1,8 +1,10 @@
 // Opening two sheets, and an element of each of them for a window.
 ghost use Rattle.std.specs.Prelude.{◌≡◌};
 ghost use Rattle.sheets.specs.Sheet.{read_sheet};
-ghost use Rattle.openings.specs.Offsets.{both_from};
-ghost use Rattle.openings.specs.Openings.{OpensPair, OpensSheets};
+ghost use Rattle.openings.specs.Refusals.{unless_fault};
+ghost use Rattle.openings.specs.Offsets.{pair_tests, both_from};
+ghost use Rattle.openings.specs.Buffers.{unless_trays};
+ghost use Rattle.openings.specs.Openings.{OpensPair, OpensSheets, Verdict};
 
 use crate::{Pair, Refusal, Sheets, Which, opened, ranges, reading};
 use families::FileOffset;
@@ -17,12 +19,34 @@ pub fn open_sheets(sheet1: &[u8], sheet2: &[u8]) -> Result<Sheets, Refusal>
 }
 
 impl Sheets {
+    // Checks the indexes of an element of each.
+    pub fn check_pair(&self, i: u64, j: u64) -> Result<(), Refusal>
+        ensures { let m = self.now.one.layout.elements in
+            Verdict (unless_fault (pair_tests m i self.now.two.layout.elements j)) result }
+    {
+        let m = self.one.layout.elements as u64;
+        ranges::check_pair(m, i, self.two.layout.elements as u64, j)
+    }
+
     // Where both have started: the larger displacement.
     pub fn displacement(&self) -> u32
         ensures { result ≡ both_from self.now.one self.now.two }
     {
         let one = self.one.layout.displacement;
         one.max(self.two.layout.displacement)
+    }
+
+    // Checks a window of both, and the lengths of two trays of it.
+    pub fn check_trays(
+        &self,
+        a: FileOffset,
+        b: FileOffset,
+        one: usize,
+        two: usize,
+    ) -> Result<(), Refusal>
+        ensures { Verdict (unless_trays self.now.one self.now.two a.0 b.0 one two) result }
+    {
+        ranges::check_trays(self.displacement(), a, b, one as u64, two as u64)
     }
 }
 
@@ -39,8 +63,7 @@ pub fn open_pair(
         OpensPair one two i j a.0 b.0 result }
 {
     let both = open_sheets(sheet1, sheet2)?;
-    let m = both.one.layout.elements as u64;
-    ranges::check_pair(m, i, both.two.layout.elements as u64, j)?;
+    both.check_pair(i, j)?;
     ranges::check_range(crate::LIMIT, both.displacement(), a, b)?;
     Ok(Pair {
         one: opened::choose(both.one, i as usize),
