@@ -6,7 +6,7 @@ use native.Mathlib.Omega.{arith}
 use lib.ListN.{length}
 use Rattle.counting.specs.Elements.{Elements}
 use Rattle.counting.specs.Trays.{moved, pair_moved}
-use Rattle.sheets.specs.declared.Reading.{Reading}
+use Rattle.sheets.specs.Reading.{Reading}
 use Rattle.sheets.specs.Sheet.{read_sheet}
 use Rattle.sheets.proofs.Accepted.{accepted_law}
 use Rattle.maps.specs.declared.Window.{Window}

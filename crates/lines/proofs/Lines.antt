@@ -11,7 +11,7 @@ use Rattle.families.specs.Forest.{size_of}
 use Rattle.families.specs.Decoded.{element_of, row_of}
 use Rattle.families.proofs.Rows.{row_element}
 use Rattle.families.proofs.Flats.{element_some, element_sound}
-use Rattle.sheets.specs.declared.Reading.{Reading}
+use Rattle.sheets.specs.Reading.{Reading}
 use Rattle.sheets.specs.Refusals.{HOLE, OVERLAP}
 use Rattle.sheets.specs.Sheet.{read_sheet}
 use Rattle.sheets.proofs.Accepted.{Accepted, accepted_law}
