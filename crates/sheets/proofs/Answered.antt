@@ -42,6 +42,21 @@ no_flag fault.Trailing e = refl
 no_flag fault.Hole e = absurd (true≢false (sym e))
 no_flag fault.Overlap e = absurd (true≢false (sym e))
 
+-- .. and that is a hole or an overlap
+pub other_flag : (f : Fault) → (f ≡ fault.Hole → ⊥) → (f ≡ fault.Overlap → ⊥) → fault_flag f ≡ NO_FLAG
+other_flag fault.Short h o = refl
+other_flag fault.Kind h o = refl
+other_flag fault.Length h o = refl
+other_flag fault.Count h o = refl
+other_flag fault.Many h o = refl
+other_flag fault.Segment h o = refl
+other_flag fault.Span h o = refl
+other_flag fault.Order h o = refl
+other_flag fault.Depth h o = refl
+other_flag fault.Trailing h o = refl
+other_flag fault.Hole h o = absurd (h refl)
+other_flag fault.Overlap h o = absurd (o refl)
+
 -- what is refused with a fault's number
 unless_some : {A : Type 0} (k place : ℕ) (next : Read A) → 1 ≤ k → unless k place next ≡ refused k place
 unfolding unless
