@@ -1,11 +1,8 @@
 -- Where a frame's blobs stand and end, when an end past the frame's own is cut down to the next number. Assumes nothing.
-use mathlib.Core.Path.{◌≡◌, refl, sym, ap, ◌∙◌}
-use mathlib.Core.Bool.{Bool, true, false}
+use mathlib.Core.Path.{◌≡◌, refl, ap, ◌∙◌}
 use mathlib.Core.List.{List}
 use Prim.Native.Nat.{ℕ, suc, ◌+◌, ◌-◌, ◌*◌, ◌≤◌, min}
 use native.Mathlib.Omega.{arith, min_cases}
-use borrow.Author.Tests.{eq-eqb, ne_eqb, eqb-true, eqb-false}
-use lib.Dec.{eqb}
 use lib.ListN.{length, take, drop, length-take, length-drop}
 use lib.Seq.{length-take-le}
 use Rattle.sheets.specs.Bytes.{le32}
@@ -29,15 +26,12 @@ module _ (xs : List ℕ) where
   cut_next e r s p q = q ∙ ap (λ (k : ℕ). cut (blob_end xs k)) p ∙ cut_on e
 
   -- the frame's own end is not cut
-  cut_test : (e r : ℕ) → r ≡ cut e → eqb r (length xs) ≡ eqb e (length xs)
-  cut_test e r p = go (eqb e (length xs)) refl
-    where
-      go : (b : Bool) → eqb e (length xs) ≡ b → eqb r (length xs) ≡ eqb e (length xs)
-      go true h = let z : e ≡ length xs = eqb-true e (length xs) h in eq-eqb r (length xs) (omega arith) ∙ sym h
-      go false h = ne_eqb r (length xs) (λ w. eqb-false e (length xs) h (omega arith)) ∙ sym h
+  module _ (r3 r4 : ℕ) (third : r3 ≡ cut (end3 xs)) (fourth : r4 ≡ cut (blob_end xs r3)) where
+    pub whole_when : r4 ≡ length xs → Whole xs
+    whole_when e = omega (arith, cut_next (end3 xs) r3 r4 third fourth)
 
-  pub whole_test : (r3 r4 : ℕ) → r3 ≡ cut (end3 xs) → r4 ≡ cut (blob_end xs r3) → eqb r4 (length xs) ≡ eqb (end4 xs) (length xs)
-  whole_test r3 r4 p q = cut_test (end4 xs) r4 (cut_next (end3 xs) r3 r4 p q)
+    pub whole_only : (r4 ≡ length xs → ⊥) → Whole xs → ⊥
+    whole_only d whole = d (omega (arith, cut_next (end3 xs) r3 r4 third fourth))
 
   -- a blob that stands in the frame is what is lent
   module _ (at end : ℕ) (fits : blob_end xs at ≤ length xs) (ends : end ≡ cut (blob_end xs at)) where

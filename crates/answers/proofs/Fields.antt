@@ -2,12 +2,9 @@
 use mathlib.Core.Path.{◌≡◌}
 use mathlib.Core.List.{List}
 use Prim.Native.Nat.{ℕ, ◌+◌, ◌<◌}
-use native.Mathlib.Omega.{arith}
-use lib.ListN.{length, take, set, length-set}
+use lib.ListN.{length, take, set}
 use Rattle.words.specs.Texts.{word, decimal, Put}
 use Rattle.words.proofs.Puts.{put_byte, ◌then◌}
-use Rattle.io.specs.Counts.{IsPrefixLen}
-use Rattle.io.proofs.Counting.{prefix_len_of_le}
 use Rattle.said.specs.declared.Answer.{Answer}
 use Rattle.answers.specs.Lines.{field, fields, buffer, line}
 
@@ -30,8 +27,8 @@ module _ (a : Answer) (into : List ℕ) {most m e : ℕ} {t0 t1 t2 : List ℕ} (
   unfolding line word
   put_end = p then (q then put_byte 10 e t2 room)
 
-  pub line_is : (take (e + 1) (set t2 e 10) ≡ line a into) × IsPrefixLen (e + 1) (set t2 e 10)
-  line_is = (put_end.text, prefix_len_of_le (e + 1) (set t2 e 10) (rw length-set (omega arith)))
+  pub line_is : take (e + 1) (set t2 e 10) ≡ line a into
+  line_is = put_end.text
 
   pub line_kept : length (set t2 e 10) ≡ length t0
   line_kept = put_end.kept

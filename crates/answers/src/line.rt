@@ -75,7 +75,9 @@ fn put_buffer(bytes: &[u8], text: &mut [u8], at: usize) -> usize
 // Puts the line of an answer and of the destination buffer into `text`, and answers how long it is.
 pub fn put_line(answer: Answer, into: &[u8], text: &mut [u8]) -> usize
     requires { 149 + 2 * length into.now ≤ length text.old }
-    ensures { (take result text.new ≡ line answer into.now) × IsPrefixLen result text.new }
+    ensures line { take result text.new ≡ line answer into.now }
+    ensures lent { IsPrefixLen result text.new }
+    ensures some { 0 < result }
 {
     let numbers = put_numbers(answer, text);
     let end = put_buffer(into, text, numbers);

@@ -7,14 +7,14 @@ use Rattle.answers.proofs.frames.blob.Goals as goal
 use Rattle.answers.proofs.frames.blob.Goals.{After-blob_end-end}
 
 -- the blob stands in the frame
-place : (c : After-blob_end-end) → (c.args.at + 4 ≤ c.blob_end-end.result) × (c.blob_end-end.result ≤ length c.args.frame.now)
+place : (c : After-blob_end-end) → (c.args.at + 4 ≤ c.blob_end-end.result) × (c.blob_end-end.result ≤ length c.args.bytes.now)
 place c = blob_place _ _ _ c.requires c.blob_end-end.ensures
 
 pub overflow_add-start : goal.overflow_add-start
-overflow_add-start c = omega (arith, blob_grows c.args.frame.now c.args.at, c.requires)
+overflow_add-start c = omega (arith, blob_grows c.args.bytes.now c.args.at, c.requires)
 
 pub blob_end-end-requires : goal.blob_end-end-requires
-blob_end-end-requires c = omega (arith, blob_grows c.args.frame.now c.args.at, c.requires)
+blob_end-end-requires c = omega (arith, blob_grows c.args.bytes.now c.args.at, c.requires)
 
 pub slice_bounds-result-count : goal.slice_bounds-result-count
 slice_bounds-result-count c = omega (arith, place c)

@@ -1,0 +1,10 @@
+-- `sheet2` meets its contract. Assumes nothing.
+use mathlib.Core.Path.{◌∙◌}
+use Rattle.answers.proofs.Ends.{begin_fits, begin_blob, second_fits}
+use Rattle.answers.proofs.frames.Frame.sheet2.Goals as goal
+
+pub blob-requires : goal.blob-requires
+blob-requires c = begin_fits _ _ _ (second_fits _ c.args.self.now.whole) c.blob_end.ensures
+
+pub returns : goal.returns
+returns c = c.blob.ensures ∙ begin_blob _ _ _ (second_fits _ c.args.self.now.whole) c.blob_end.ensures
