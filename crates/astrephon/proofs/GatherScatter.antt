@@ -9,10 +9,8 @@ use Rattle.counting.proofs.Scatters.{length_scattered, scatter_gather, gather_sc
 use Rattle.sheets.specs.declared.Reading.{Reading}
 use Rattle.sheets.specs.Sheet.{read_sheet}
 use Rattle.openings.specs.Offsets.{offsets_of}
-use Rattle.astrephon.specs.declared.Carried.{Carried}
-use Rattle.astrephon.specs.declared.Carried.TheVariants.{Done}
 use Rattle.astrephon.specs.Sequences.{Takes}
-use Rattle.astrephon.proofs.Contracts.{Made, Gather, Scatter}
+use Rattle.astrephon.proofs.Contracts.{Carried, Done, Made, Gather, Scatter}
 use Rattle.astrephon.proofs.Accepting.{gather_left, scatter_left, scatter_made, window_count, gathered_long}
 use Rattle.astrephon.proofs.Trays.{offsets_apart}
 
