@@ -17,29 +17,6 @@ use Rattle.answers.specs.Numbers.{slots_in, slots_of, with_slots}
 use Rattle.answers.specs.Lines.{line}
 use Rattle.answers.specs.Replies.{sharing, shared_outcome, Tells, asked_of, leaving, telling, reply_to, line_of, line_left, reply}
 
--- ---- one call: it was made on what the frame says
-pub asked : {A : Type 0} (says : A → Said) (answered : A) {answer : Answer} {said wanted : Said} → answer ≡ answer_of (says answered) → says answered ≡ said → said ≡ wanted
-    → answer ≡ answer_of wanted
-asked says answered is says_so same = is ∙ ap answer_of (says_so ∙ same)
-
-pub told : {A : Type 0} (says : A → Said) (answered : A) {answer : Answer} {o p : Outcome} {later : List ℕ} → answer ≡ answer_of (says answered)
-    → (says answered ≡ o.says) × (later ≡ o.later) → o ≡ p → Tells p answer later
-told says answered is made same = record { answered = is ∙ ap answer_of (made.0 ∙ ap (λ (q : Outcome). q.says) same); left = made.1 ∙ ap (λ (q : Outcome). q.later) same }
-
--- ---- shared runs: the buffer's slots were taken as the list, and what the call left in it was put back
-module _ (xs into : List ℕ) {sheet sheet' slots : List ℕ} {i j a b n : ℕ}
-    (long : n ≡ length into / 8) (taken : slots ≡ slots_in n into) (one : sheet ≡ sheet1 xs) (two : sheet' ≡ sheet2 xs)
-    (is-i : i ≡ i_of xs) (is-j : j ≡ j_of xs) (is-a : a ≡ a_of xs) (is_b : b ≡ b_of xs) where
-  called : shared_runs_call sheet sheet' i j a b slots ≡ sharing xs (slots_of into)
-  called = cc
-
-  pub shared_left : {A : Type 0} (says : A → Said) (answered : A) {answer : Answer} {later after : List ℕ} → answer ≡ answer_of (says answered)
-      → (says answered ≡ (shared_runs_call sheet sheet' i j a b slots).says) × (later ≡ (shared_runs_call sheet sheet' i j a b slots).later) → after ≡ with_slots later into
-      → Tells (shared_outcome xs into) answer after
-  unfolding shared_outcome
-  shared_left says answered is made put =
-      let T = told says answered is made called in record { answered = T.answered; left = put ∙ ap (λ (l : List ℕ). with_slots l into) T.left }
-
 -- ---- what is replied to a call
 module _ (xs into : List ℕ) {call k : Call} where
   pub replied_asked : {a b : Answer} → a ≡ b → call ≡ k → reply_to (number_of k) xs into ≡ leaving (Some b) into → leaving (Some a) into ≡ reply_to (number_of call) xs into

@@ -50,10 +50,6 @@ module _ {buffer list : List ℕ} where
     pub taken_all : length list ≤ i → here ≡ slots_in (length list) buffer
     taken_all h = let e : i ≡ length list = omega (arith, p.some) in rw (drop-length, append-nil) at (rw e at p.is)
 
--- a list for the longest buffer is lent as far as the buffer has whole slots
-pub list_lent : (buffer list : List ℕ) → length buffer ≤ 65536 → 8192 ≡ length list → length (take (length buffer / 8) list) ≡ length buffer / 8
-list_lent buffer list few long = length-take-le (length buffer / 8) list (omega arith)
-
 -- ---- i slots are put back
 slot_bytes_length : (vs : List ℕ) → length (slot_bytes vs) ≡ 8 * length vs
 unfolding slot_bytes

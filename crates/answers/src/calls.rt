@@ -56,6 +56,7 @@ impl TryFrom<u8> for Call {
 }
 
 // Makes the frame's call on the destination buffer.
+#[tactic(auto, unfolding(crate::specs::Replies::reply_to, crate::specs::Replies::asked_of))]
 fn make(call: Call, frame: &Frame, into: &mut [u8]) -> Answer
     requires { length into.old ≤ 65536 }
     ensures { leaving (Some result) into.new ≡ reply_to (number_of call) frame.now.bytes.now into.old }

@@ -7,7 +7,7 @@ use said::Answer;
 pub fn gather(frame: &Frame, into: &mut [u8]) -> Answer
     ensures { Tells (gather_outcome frame.now.bytes.now into.old) result into.new }
 {
-    said::of_carried(astrephon::gather(
+    said::of_outcome(astrephon::gather(
         frame.sheet1(),
         frame.i(),
         frame.a(),
@@ -20,7 +20,7 @@ pub fn gather(frame: &Frame, into: &mut [u8]) -> Answer
 pub fn scatter(frame: &Frame, into: &mut [u8]) -> Answer
     ensures { Tells (scatter_outcome frame.now.bytes.now into.old) result into.new }
 {
-    said::of_carried(astrephon::scatter(
+    said::of_outcome(astrephon::scatter(
         frame.sheet1(),
         frame.i(),
         frame.a(),
@@ -33,7 +33,7 @@ pub fn scatter(frame: &Frame, into: &mut [u8]) -> Answer
 pub fn move_tray(frame: &Frame, into: &mut [u8]) -> Answer
     ensures { Tells (move_outcome frame.now.bytes.now into.old) result into.new }
 {
-    said::of_carried(astrephon::move_tray(
+    said::of_outcome(astrephon::move_tray(
         frame.sheet1(),
         frame.sheet2(),
         frame.a(),
@@ -46,7 +46,7 @@ pub fn move_tray(frame: &Frame, into: &mut [u8]) -> Answer
 pub fn move_pair(frame: &Frame, into: &mut [u8]) -> Answer
     ensures { Tells (pair_move_outcome frame.now.bytes.now into.old) result into.new }
 {
-    said::of_carried(astrephon::move_pair(
+    said::of_outcome(astrephon::move_pair(
         frame.sheet1(),
         frame.sheet2(),
         frame.i(),

@@ -88,6 +88,7 @@ impl<'a> Frame<'a> {
     }
 
     // The call that its number names, if it names one.
+    #[tactic(auto, using(crate::proofs::Ends::first_fits))]
     pub fn call(&self) -> Option<Call>
         ensures { let number = call_of self.now.bytes.now in
             MatchOption result (NamesNone number) (λ call. number_of call ≡ number) }
@@ -95,12 +96,14 @@ impl<'a> Frame<'a> {
         Call::try_from(self.bytes[0]).ok()
     }
 
+    #[tactic(auto, using(crate::proofs::Ends::first_fits))]
     pub fn i(&self) -> u64
         ensures { result ≡ i_of self.now.bytes.now }
     {
         numbers::le64_at(self.bytes, I)
     }
 
+    #[tactic(auto, using(crate::proofs::Ends::first_fits))]
     pub fn j(&self) -> u64
         ensures { result ≡ j_of self.now.bytes.now }
     {
@@ -108,6 +111,7 @@ impl<'a> Frame<'a> {
     }
 
     // The number a, which most calls take as an offset in the file,
+    #[tactic(auto, using(crate::proofs::Ends::first_fits))]
     pub fn a(&self) -> FileOffset
         ensures { result.0 ≡ a_of self.now.bytes.now }
     {
@@ -115,12 +119,14 @@ impl<'a> Frame<'a> {
     }
 
     // and `inverse` as one in the element's bytes.
+    #[tactic(auto, using(crate::proofs::Ends::first_fits))]
     pub fn a_in_subfile(&self) -> SubfileOffset
         ensures { result.0 ≡ a_of self.now.bytes.now }
     {
         SubfileOffset(numbers::le64_at(self.bytes, A))
     }
 
+    #[tactic(auto, using(crate::proofs::Ends::first_fits))]
     pub fn b(&self) -> FileOffset
         ensures { result.0 ≡ b_of self.now.bytes.now }
     {

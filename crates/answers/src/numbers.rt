@@ -6,13 +6,6 @@ ghost use Rattle.answers.specs.Numbers.{le64, lowest, slots_in, with_slots};
 // The slots of the longest buffer that a frame has.
 pub const MOST_SLOTS: usize = 8192;
 
-// A list of zeros. Its contract says its length alone, which is all that lending a part of it needs.
-pub fn blank_list() -> [u64; MOST_SLOTS]
-    ensures { 8192 ≡ length result }
-{
-    [0; MOST_SLOTS]
-}
-
 // The number at `at`. It is not `u64::from_le_bytes`, for which the eight bytes would first be copied into an array.
 pub fn le64_at(bytes: &[u8], at: usize) -> u64
     requires { at + 8 ≤ length bytes.now }

@@ -7,6 +7,7 @@ use crate::numbers;
 use said::Answer;
 
 // Shared runs, by way of a list with as many slots as the buffer has whole ones.
+#[tactic(auto, unfolding(crate::specs::Replies::shared_outcome))]
 fn list_runs(frame: &Frame, into: &mut [u8], list: &mut [u64]) -> Answer
     requires { length list.old ≡ length into.old / 8 }
     ensures { Tells (shared_outcome frame.now.bytes.now into.old) result into.new }
@@ -22,14 +23,14 @@ fn list_runs(frame: &Frame, into: &mut [u8], list: &mut [u64]) -> Answer
         list,
     );
     numbers::put_slots(list, into);
-    said::of_listed(listed)
+    said::of_outcome(listed)
 }
 
 pub fn shared_runs(frame: &Frame, into: &mut [u8]) -> Answer
     requires { length into.old ≤ 65536 }
     ensures { Tells (shared_outcome frame.now.bytes.now into.old) result into.new }
 {
-    let mut list = numbers::blank_list();
+    let mut list = [0; numbers::MOST_SLOTS];
     let slots = into.len() / 8;
     list_runs(frame, into, &mut list[..slots])
 }
@@ -37,5 +38,5 @@ pub fn shared_runs(frame: &Frame, into: &mut [u8]) -> Answer
 pub fn list_sheet(frame: &Frame, into: &mut [u8]) -> Answer
     ensures { Tells (listing_outcome frame.now.bytes.now into.old) result into.new }
 {
-    said::of_written(astrephon::list_sheet(frame.sheet1(), into))
+    said::of_outcome(astrephon::list_sheet(frame.sheet1(), into))
 }
