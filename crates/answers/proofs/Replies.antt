@@ -1,31 +1,18 @@
 -- What the reply to a frame is, case by case. Assumes nothing.
 use mathlib.Core.Path.{◌≡◌, refl, sym, ap, ◌∙◌}
 use mathlib.Core.List.{List, []}
-use Prim.Native.Nat.{ℕ, ◌/◌}
+use Prim.Native.Nat.{ℕ}
 use borrow.Author.Tests.{eq-eqb, ne_eqb}
 use lib.ListN.{length}
 use Rattle.std.specs.Prelude.{Option, Some, None}
-use Rattle.openings.specs.Said.{Said, Outcome}
-use Rattle.astrephon.specs.Shares.{shared_runs_call}
 use Rattle.said.specs.declared.Answer.{Answer}
-use Rattle.said.specs.Answers.{answer_of}
-use Rattle.answers.specs.declared.calls.Call.{Call}
 use Rattle.answers.specs.declared.calls.Call.TheVariants.{Check, Exact, Next, Inverse, Span, Gather, Scatter, Move, PairMove, SharedRuns, Listing, PackedLength}
-use Rattle.answers.specs.Calls.{number_of, NamesNone}
-use Rattle.answers.specs.Frames.{call_of, i_of, j_of, a_of, b_of, end4, Whole, sheet1, sheet2, into_of}
-use Rattle.answers.specs.Numbers.{slots_in, slots_of, with_slots}
+use Rattle.answers.specs.Calls.{NamesNone}
+use Rattle.answers.specs.Frames.{call_of, end4, Whole, into_of}
 use Rattle.answers.specs.Lines.{line}
-use Rattle.answers.specs.Replies.{sharing, shared_outcome, Tells, asked_of, leaving, telling, reply_to, line_of, line_left, reply}
+use Rattle.answers.specs.Replies.{asked_of, leaving, reply_to, line_of, line_left, reply}
 
--- ---- what is replied to a call
-module _ (xs into : List ℕ) {call k : Call} where
-  pub replied_asked : {a b : Answer} → a ≡ b → call ≡ k → reply_to (number_of k) xs into ≡ leaving (Some b) into → leaving (Some a) into ≡ reply_to (number_of call) xs into
-  replied_asked e is to = ap (λ (t : Answer). leaving (Some t) into) e ∙ sym to ∙ ap (λ (n : Call). reply_to (number_of n) xs into) (sym is)
-
-  pub replied_told : {o : Outcome} {a : Answer} {later : List ℕ} → Tells o a later → call ≡ k → reply_to (number_of k) xs into ≡ telling o
-      → leaving (Some a) later ≡ reply_to (number_of call) xs into
-  replied_told T is to = (λ t. leaving (Some (T.answered t)) (T.left t)) ∙ sym to ∙ ap (λ (n : Call). reply_to (number_of n) xs into) (sym is)
-
+-- no call has the number: nothing is replied
 pub unreplied : (n : ℕ) (xs into : List ℕ) → NamesNone n → (reply_to n xs into).reply ≡ None
 unfolding reply_to asked_of
 unreplied n xs into none =

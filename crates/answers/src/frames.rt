@@ -32,6 +32,7 @@ pub fn number(head: &[u8; 4]) -> usize
 }
 
 // Where the blob ends whose length stands at `at`; one past the frame's end where it does not fit.
+#[tactic(auto, unfolding(crate::specs::Frames::blob_end))]
 fn blob_end(bytes: &[u8], at: usize) -> usize
     requires { at ≤ 2 ^ 63 }
     ensures { result ≡ min (blob_end bytes.now at) (suc (length bytes.now)) }
@@ -45,6 +46,7 @@ fn blob_end(bytes: &[u8], at: usize) -> usize
 }
 
 // Where the second blob ends, and the third begins.
+#[tactic(auto, using(crate::proofs::Ends::cut_next))]
 fn second_end(bytes: &[u8]) -> usize
     ensures { result ≡ min (end2 bytes.now) (suc (length bytes.now)) }
 {
@@ -52,6 +54,7 @@ fn second_end(bytes: &[u8]) -> usize
 }
 
 // Where the third blob ends, and the last begins.
+#[tactic(auto, using(crate::proofs::Ends::cut_next))]
 fn third_end(bytes: &[u8]) -> usize
     ensures { result ≡ min (end3 bytes.now) (suc (length bytes.now)) }
 {
@@ -59,6 +62,7 @@ fn third_end(bytes: &[u8]) -> usize
 }
 
 // The blob whose length stands at `at`.
+#[tactic(auto, using(crate::proofs::Ends::blob_grows, crate::proofs::Ends::blob_place, crate::proofs::Ends::blob_lent))]
 fn blob(bytes: &[u8], at: usize) -> &[u8]
     requires { blob_end bytes.now at ≤ length bytes.now }
     ensures { result.now ≡ blob bytes.now at }
@@ -77,6 +81,7 @@ pub struct Frame<'a> {
 
 impl<'a> Frame<'a> {
     // The frame that these bytes are, if they are one.
+    #[tactic(auto, using(crate::proofs::Ends::whole_when, crate::proofs::Ends::whole_only))]
     pub fn parse(bytes: &'a [u8]) -> Option<Frame<'a>>
         ensures { MatchOption result (¬ Whole bytes.now) (λ frame. frame.bytes.now ≡ bytes.now) }
     {
@@ -96,49 +101,55 @@ impl<'a> Frame<'a> {
         Call::try_from(self.bytes[0]).ok()
     }
 
+    // One of the four numbers.
     #[tactic(auto, using(crate::proofs::Ends::first_fits))]
+    fn number_at(&self, at: usize) -> u64
+        requires { at ≤ 25 }
+        ensures { result ≡ le64 self.now.bytes.now at }
+    {
+        numbers::le64_at(self.bytes, at)
+    }
+
     pub fn i(&self) -> u64
         ensures { result ≡ i_of self.now.bytes.now }
     {
-        numbers::le64_at(self.bytes, I)
+        self.number_at(I)
     }
 
-    #[tactic(auto, using(crate::proofs::Ends::first_fits))]
     pub fn j(&self) -> u64
         ensures { result ≡ j_of self.now.bytes.now }
     {
-        numbers::le64_at(self.bytes, J)
+        self.number_at(J)
     }
 
     // The number a, which most calls take as an offset in the file,
-    #[tactic(auto, using(crate::proofs::Ends::first_fits))]
     pub fn a(&self) -> FileOffset
         ensures { result.0 ≡ a_of self.now.bytes.now }
     {
-        FileOffset(numbers::le64_at(self.bytes, A))
+        FileOffset(self.number_at(A))
     }
 
     // and `inverse` as one in the element's bytes.
-    #[tactic(auto, using(crate::proofs::Ends::first_fits))]
     pub fn a_in_subfile(&self) -> SubfileOffset
         ensures { result.0 ≡ a_of self.now.bytes.now }
     {
-        SubfileOffset(numbers::le64_at(self.bytes, A))
+        SubfileOffset(self.number_at(A))
     }
 
-    #[tactic(auto, using(crate::proofs::Ends::first_fits))]
     pub fn b(&self) -> FileOffset
         ensures { result.0 ≡ b_of self.now.bytes.now }
     {
-        FileOffset(numbers::le64_at(self.bytes, B))
+        FileOffset(self.number_at(B))
     }
 
+    #[tactic(auto, using(crate::proofs::Ends::first_fits))]
     pub fn sheet1(&self) -> &[u8]
         ensures { result.now ≡ sheet1 self.now.bytes.now }
     {
         blob(self.bytes, BLOBS)
     }
 
+    #[tactic(auto, using(crate::proofs::Ends::second_fits, crate::proofs::Ends::begin_fits, crate::proofs::Ends::begin_blob))]
     pub fn sheet2(&self) -> &[u8]
         ensures { result.now ≡ sheet2 self.now.bytes.now }
     {
@@ -146,6 +157,7 @@ impl<'a> Frame<'a> {
     }
 
     // The source buffer.
+    #[tactic(auto, using(crate::proofs::Ends::third_fits, crate::proofs::Ends::begin_fits, crate::proofs::Ends::begin_blob))]
     pub fn source(&self) -> &[u8]
         ensures { result.now ≡ from_of self.now.bytes.now }
     {
@@ -153,6 +165,7 @@ impl<'a> Frame<'a> {
     }
 
     // The destination buffer, as it was before the call.
+    #[tactic(auto, using(crate::proofs::Ends::fourth_fits, crate::proofs::Ends::begin_fits, crate::proofs::Ends::begin_blob))]
     pub fn destination(&self) -> &[u8]
         ensures { result.now ≡ into_of self.now.bytes.now }
     {

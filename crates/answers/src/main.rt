@@ -57,6 +57,7 @@ fn answer_frame(frame: &mut [u8], buffer: &mut [u8], text: &mut [u8]) -> Control
 
 // Reads one frame into `space`, which has room for the longest, and prints its line. Answers whether to go on: not after the last frame, and
 // not after a bad one.
+#[tactic(auto, using(crate::proofs::Ends::front_room))]
 fn answer_one(space: &mut [u8], buffer: &mut [u8], text: &mut [u8]) -> ControlFlow<()>
     requires { Room (length space.old) (length buffer.old) (length text.old) }
 {
