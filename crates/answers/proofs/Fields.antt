@@ -59,6 +59,3 @@ module _ (a : Answer) (into : List ℕ) {most m e : ℕ} {t0 t1 t2 : List ℕ} (
 
   pub line_is : take (e + 1) (set t2 e 10) ≡ line a into
   line_is = put_end.text
-
-  pub line_kept : length (set t2 e 10) ≡ length t0
-  line_kept = put_end.kept

@@ -87,8 +87,7 @@ fn put_reply(call: Call, frame: &Frame, into: &mut [u8], text: &mut [u8]) -> usi
     ensures lent { IsPrefixLen result text.new }
     ensures some { 0 < result }
 {
-    let size = into.len();
-    copies::copy_run(frame.destination(), 0, into, 0, size);
+    into.copy_from_slice(frame.destination());
     let answer = make(call, frame, into);
     line::put_line(answer, into, text)
 }

@@ -19,6 +19,7 @@ ghost use Rattle.answers.specs.Lines.{Room};
 
 use std::ops::ControlFlow;
 
+// The kit's `io`, by the numbers of the streams, and not std's `Read` and `Write`: those rest on one contract of the C library's more, that of `errno`.
 const INPUT: i32 = 0;
 
 const OUTPUT: i32 = 1;
