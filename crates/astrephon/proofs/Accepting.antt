@@ -10,7 +10,7 @@ use Rattle.counting.specs.Gather.{in_file, gathered, scattered}
 use Rattle.counting.specs.Trays.{moved, pair_moved}
 use Rattle.counting.proofs.Counts.{count_window}
 use Rattle.counting.proofs.Gathers.{length_gathered}
-use Rattle.sheets.specs.declared.Reading.{Reading}
+use Rattle.sheets.specs.Reading.{Reading}
 use Rattle.sheets.specs.Refusals.{first_fault}
 use Rattle.sheets.specs.Sheet.{read_sheet}
 use Rattle.openings.specs.Said.{done, Outcome, writing}

@@ -1,6 +1,6 @@
 -- What the engines ask of an element that was opened. Assumes nothing.
 use Prim.Native.Nat.{ℕ, ◌≤◌}
-use Rattle.sheets.specs.declared.Reading.{Reading}
+use Rattle.sheets.specs.Reading.{Reading}
 use Rattle.openings.specs.declared.Opening.{Opening}
 use Rattle.openings.proofs.Opens.{Opened}
 use Rattle.runs.specs.Walking.{SideOk}

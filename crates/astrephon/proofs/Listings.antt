@@ -7,7 +7,7 @@ use native.Mathlib.Omega.{arith}
 use lib.ListN.{length}
 use borrow.Author.Tests.{le-leb, lt-leb}
 use Rattle.counting.specs.Runs.{Run}
-use Rattle.sheets.specs.declared.Reading.{Reading}
+use Rattle.sheets.specs.Reading.{Reading}
 use Rattle.sheets.specs.Sheet.{read_sheet}
 use Rattle.maps.specs.Selected.{belongs}
 use Rattle.maps.specs.declared.Window.{Window}

@@ -8,6 +8,11 @@ use lib.ListN.{get_or}
 use Rattle.std.specs.Prelude.{Ok, Err}
 use Rattle.families.specs.declared.FileOffset.{FileOffset}
 use Rattle.families.specs.declared.SubfileOffset.{SubfileOffset}
+use Rattle.sheets.specs.Refusals.{SHORT, KIND, LENGTH, COUNT, MANY, SEGMENT, SPAN, ORDER, DEPTH, TRAILING, HOLE}
+use Rattle.sheets.specs.Answered.{fault_number, fault_flag}
+use Rattle.sheets.specs.declared.refusals.Fault.{Fault}
+use Rattle.sheets.specs.declared.refusals.Fault.TheVariants as fault
+use Rattle.sheets.specs.declared.refusals.Refused.{Refused}
 use Rattle.openings.specs.declared.Which.TheVariants.{First, Second}
 use Rattle.openings.specs.declared.Refusal.{Refusal}
 use Rattle.openings.specs.declared.Refusal.TheVariants.{Sheet, Element, Before, Far, Window, Foreign, Buffer, Room}
@@ -28,10 +33,39 @@ of_call number place =
     (cond (eqb number FOREIGN) Foreign
     (cond (eqb number BUFFER) Buffer (Room place))))))
 
+of_fault : (number flag : ℕ) → Fault
+of_fault number flag =
+    cond (eqb number SHORT) fault.Short
+    (cond (eqb number KIND) fault.Kind
+    (cond (eqb number LENGTH) fault.Length
+    (cond (eqb number COUNT) fault.Count
+    (cond (eqb number MANY) fault.Many
+    (cond (eqb number SEGMENT) fault.Segment
+    (cond (eqb number SPAN) fault.Span
+    (cond (eqb number ORDER) fault.Order
+    (cond (eqb number DEPTH) fault.Depth
+    (cond (eqb number TRAILING) fault.Trailing
+    (cond (eqb flag HOLE) fault.Hole fault.Overlap))))))))))
+
+fault_back : (f : Fault) → of_fault (fault_number f) (fault_flag f) ≡ f
+unfolding of_fault
+fault_back fault.Short = refl
+fault_back fault.Kind = refl
+fault_back fault.Length = refl
+fault_back fault.Count = refl
+fault_back fault.Many = refl
+fault_back fault.Segment = refl
+fault_back fault.Span = refl
+fault_back fault.Order = refl
+fault_back fault.Depth = refl
+fault_back fault.Trailing = refl
+fault_back fault.Hole = refl
+fault_back fault.Overlap = refl
+
 to_refusal : (number sheet place flag : ℕ) → Refusal
 to_refusal number sheet place flag =
-    cond (eqb sheet 1) (Sheet First (record { number = number; place = place; flag = flag }))
-    (cond (eqb sheet 2) (Sheet Second (record { number = number; place = place; flag = flag })) (of_call number place))
+    let refused-sheet : Refused = record { fault = of_fault number flag; place = place } in
+    cond (eqb sheet 1) (Sheet First refused-sheet) (cond (eqb sheet 2) (Sheet Second refused-sheet) (of_call number place))
 
 -- ---- an answer by what is said: what `back` makes of the values, or the refusal
 module _ {A : Type 0} (values : A → List ℕ) (back : List ℕ → A) (is : (a : A) → back (values a) ≡ a) where
@@ -41,8 +75,8 @@ module _ {A : Type 0} (values : A → List ℕ) (back : List ℕ → A) (is : (a
 
   refused_back : (f : Refusal) → to_answer (refusal_says f) ≡ Err f
   unfolding to_answer to_refusal of_call
-  refused_back (Sheet First f) = refl
-  refused_back (Sheet Second f) = refl
+  refused_back (Sheet First f) = λ i. Err (Sheet First (record { fault = fault_back f.fault i; place = f.place }))
+  refused_back (Sheet Second f) = λ i. Err (Sheet Second (record { fault = fault_back f.fault i; place = f.place }))
   refused_back Element = refl
   refused_back Before = refl
   refused_back Far = refl

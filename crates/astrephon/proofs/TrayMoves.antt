@@ -6,7 +6,7 @@ use native.Mathlib.Omega.{arith}
 use lib.ListN.{length}
 use Rattle.counting.specs.Elements.{Elements}
 use Rattle.counting.specs.Trays.{moved, pair_moved}
-use Rattle.sheets.specs.declared.Reading.{Reading}
+use Rattle.sheets.specs.Reading.{Reading}
 use Rattle.sheets.specs.Sheet.{read_sheet}
 use Rattle.sheets.proofs.Accepted.{accepted_law}
 use Rattle.maps.specs.declared.Window.{Window}
@@ -18,7 +18,7 @@ use Rattle.openings.specs.Said.{Said, done}
 use Rattle.openings.specs.Refusals.{unless_sheets, unless_fault}
 use Rattle.openings.specs.Offsets.{LIMIT, offsets_of, pair_tests, both_from}
 use Rattle.openings.specs.Buffers.{unless_trays}
-use Rattle.openings.specs.Openings.{Passes, Refuses}
+use Rattle.openings.specs.Openings.{Passes, Refuses, accepted_as}
 use Rattle.openings.proofs.Orders.{left_held, left_written}
 use Rattle.openings.proofs.Verdicts.{passes_none}
 use Rattle.openings.proofs.Faults.{trays_known}
@@ -36,7 +36,7 @@ starts : (xs : List ℕ) (r : Reading) → r ≡ read_sheet xs → (read_sheet x
 starts xs r read fine w after ordered near = record { pattern = accepted_pattern r (rw read (accepted_law xs fine)); after = after; window = record { ordered = ordered; near = near } }
 
 -- ---- as the code has them: o is what was opened
-module _ (xs ys : List ℕ) {o : Sheets} (S : Passes (unless_sheets (read_sheet xs) (read_sheet ys)) × ((o.one ≡ read_sheet xs) × (o.two ≡ read_sheet ys))) (a b : ℕ) (t held : List ℕ) where
+module _ (xs ys : List ℕ) {o : Sheets} (S : Passes (unless_sheets (read_sheet xs) (read_sheet ys)) × ((accepted_as o.one ≡ read_sheet xs) × (accepted_as o.two ≡ read_sheet ys))) (a b : ℕ) (t held : List ℕ) where
   abbrev r1 : Reading
   r1 = read_sheet xs
 
@@ -45,32 +45,32 @@ module _ (xs ys : List ℕ) {o : Sheets} (S : Passes (unless_sheets (read_sheet 
 
   -- the engine's elements are the sheets'
   one_is : elements_of o.one.layout o.one.size ≡ elements_read r1
-  one_is = elements_are o.one ∙ ap elements_read S.1.0
+  one_is = elements_are (accepted_as o.one) ∙ ap elements_read S.1.0
 
   two_is : elements_of o.two.layout o.two.size ≡ elements_read r2
-  two_is = elements_are o.two ∙ ap elements_read S.1.1
+  two_is = elements_are (accepted_as o.two) ∙ ap elements_read S.1.1
 
   abbrev trays : (one two : Reading) → Said → Said
   trays one two = unless_trays one two a b (length t) (length held)
 
-  trays_are : (next : Said) → trays o.one o.two next ≡ trays r1 r2 next
+  trays_are : (next : Said) → trays (accepted_as o.one) (accepted_as o.two) next ≡ trays r1 r2 next
   trays_are next = ap₂ (λ (one two : Reading). trays one two next) S.1.0 S.1.1
 
   -- ---- the window or a tray is refused: nothing is written
-  pub moved_refused : (f : Refusal) → Refuses (trays o.one o.two) f → held ≡ (move_of r1 r2 a b t held).later
+  pub moved_refused : (f : Refusal) → Refuses (trays (accepted_as o.one) (accepted_as o.two)) f → held ≡ (move_of r1 r2 a b t held).later
   unfolding move_of
   moved_refused f R = sym (left_held held _ (R _ ∙ trays_are _ ∙ S.0 _))
 
   -- ---- they are fine
-  module _ (T : Passes (trays o.one o.two)) where
+  module _ (T : Passes (trays (accepted_as o.one) (accepted_as o.two))) where
     -- what the engine asks
     pub move_asks : (w : Window) → w.start.0 ≡ a → w.end.0 ≡ b → Starts o.one.layout o.one.size w × (Starts o.two.layout o.two.size w × Lengths w (length t) (length held))
     move_asks w start end =
         let fine = both_accepted r1 r2 S.0 in
-        let K = trays_known (both_from o.one o.two) a b (length t) (length held) (passes_none _ T) in (
-          starts xs o.one S.1.0 fine.0 w (omega (arith, K.1)) (omega (arith, K.0)) (omega (arith, K.2)),
+        let K = trays_known (both_from (accepted_as o.one) (accepted_as o.two)) a b (length t) (length held) (passes_none _ T) in (
+          starts xs (accepted_as o.one) S.1.0 fine.0 w (omega (arith, K.1)) (omega (arith, K.0)) (omega (arith, K.2)),
           (
-            starts ys o.two S.1.1 fine.1 w (omega (arith, K.1)) (omega (arith, K.0)) (omega (arith, K.2)),
+            starts ys (accepted_as o.two) S.1.1 fine.1 w (omega (arith, K.1)) (omega (arith, K.0)) (omega (arith, K.2)),
             record { first = rw (start, end) K.3; second = rw (start, end) K.4 },
           ),
         )
@@ -85,19 +85,19 @@ module _ (xs ys : List ℕ) {o : Sheets} (S : Passes (unless_sheets (read_sheet 
     abbrev indexes : (one two : Reading) → Said → Said
     indexes one two = unless_fault (pair_tests one.layout.elements i two.layout.elements j)
 
-    indexes_are : (next : Said) → indexes o.one o.two next ≡ indexes r1 r2 next
+    indexes_are : (next : Said) → indexes (accepted_as o.one) (accepted_as o.two) next ≡ indexes r1 r2 next
     indexes_are next = ap₂ (λ (one two : Reading). indexes one two next) S.1.0 S.1.1
 
-    pub pair_absent : (f : Refusal) → Refuses (indexes o.one o.two) f → held ≡ (pair_move_of r1 r2 i j a b t held).later
+    pub pair_absent : (f : Refusal) → Refuses (indexes (accepted_as o.one) (accepted_as o.two)) f → held ≡ (pair_move_of r1 r2 i j a b t held).later
     unfolding pair_move_of
     pair_absent f R = sym (left_held held _ (R _ ∙ indexes_are _ ∙ S.0 _))
 
-    module _ (I : Passes (indexes o.one o.two)) where
-      pub pair_refused : (f : Refusal) → Refuses (trays o.one o.two) f → held ≡ (pair_move_of r1 r2 i j a b t held).later
+    module _ (I : Passes (indexes (accepted_as o.one) (accepted_as o.two))) where
+      pub pair_refused : (f : Refusal) → Refuses (trays (accepted_as o.one) (accepted_as o.two)) f → held ≡ (pair_move_of r1 r2 i j a b t held).later
       unfolding pair_move_of
       pair_refused f R = sym (left_held held _ (R _ ∙ trays_are _ ∙ I _ ∙ indexes_are _ ∙ S.0 _))
 
-      pub pair_done : Passes (trays o.one o.two) → (later : List ℕ) → later ≡ pair_moved (elements_of o.one.layout o.one.size) (elements_of o.two.layout o.two.size) a (b - a) t i j held
+      pub pair_done : Passes (trays (accepted_as o.one) (accepted_as o.two)) → (later : List ℕ) → later ≡ pair_moved (elements_of o.one.layout o.one.size) (elements_of o.two.layout o.two.size) a (b - a) t i j held
           → later ≡ (pair_move_of r1 r2 i j a b t held).later
       unfolding pair_move_of
       pair_done T later q =

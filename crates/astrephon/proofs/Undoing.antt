@@ -12,7 +12,7 @@ use Rattle.counting.specs.Elements.{Elements}
 use Rattle.counting.proofs.Nths.{nth_found, nth_exactly}
 use Rattle.families.specs.declared.FileOffset.{FileOffset}
 use Rattle.families.specs.declared.SubfileOffset.{SubfileOffset}
-use Rattle.sheets.specs.declared.Reading.{Reading}
+use Rattle.sheets.specs.Reading.{Reading}
 use Rattle.sheets.specs.Refusals.{◌when◌}
 use Rattle.sheets.specs.Sheet.{read_sheet}
 use Rattle.sheets.proofs.Accepted.{accepted_law}

@@ -10,10 +10,10 @@ use crate::{Facts, Refusal, Which};
 pub fn check(sheet: &[u8]) -> Result<Facts, Refusal>
     ensures { says fact_values result ≡ check_call sheet.now }
 {
-    let reading = openings::read(Which::First, sheet)?;
+    let accepted = openings::read(Which::First, sheet)?;
     Ok(Facts {
-        displacement: reading.layout.displacement,
-        size: reading.size,
-        elements: reading.layout.elements as u32,
+        displacement: accepted.layout.displacement,
+        size: accepted.size,
+        elements: accepted.layout.elements as u32,
     })
 }

@@ -18,8 +18,9 @@ pub use lines::LONGEST_LISTING;
 pub use listing::list_sheet;
 pub use mapping::{exact, inverse, next, span};
 pub use moving::{move_pair, move_tray};
-pub use openings::{LAST, LIMIT, Refusal, Refused, Which};
+pub use openings::{LAST, LIMIT, Refusal, Which};
 pub use sharing::shared_runs;
+pub use sheets::{Fault, Refused};
 
 // What is known of an accepted sheet: the displacement, the pattern's size, and how many elements share it.
 #[derive(Clone, Copy, Debug, PartialEq, Eq)]

@@ -1,19 +1,27 @@
 -- The pieces of each line, put one behind the other, are the line; and the lines are the listing. Assumes nothing.
-use mathlib.Core.Path.{◌≡◌}
+use mathlib.Core.Path.{◌≡◌, sym, ap, ◌∙◌}
 use mathlib.Core.List.{List, ◌++◌}
 use Prim.Native.Nat.{ℕ, suc, ◌+◌, ◌*◌, ◌≤◌, ◌<◌}
 use native.Mathlib.Numerals.{add-one}
 use native.Mathlib.Omega.{arith}
+use lib.ListN.{length, take, get_or}
+use lib.Seq.{get_or-take, length-take-le}
+use Rattle.std.proofs.lemmas.List.{length-take}
 use borrow.Author.Tests.{eq-eqb, ne_eqb}
 use Rattle.families.specs.declared.Element.{Element}
 use Rattle.families.specs.declared.Layout.{Layout}
 use Rattle.families.specs.Forest.{size_of}
-use Rattle.families.specs.Decoded.{element_of, row_of}
+use Rattle.families.specs.Decoded.{no_element, row_of}
 use Rattle.families.proofs.Rows.{row_element}
 use Rattle.families.proofs.Flats.{element_some, element_sound}
-use Rattle.sheets.specs.declared.Reading.{Reading}
-use Rattle.sheets.specs.Refusals.{HOLE, OVERLAP}
-use Rattle.sheets.specs.Sheet.{read_sheet}
+use Rattle.std.specs.Prelude.{Ok, Err}
+use Rattle.sheets.specs.declared.Sheet.{Sheet}
+use Rattle.sheets.specs.declared.refusals.Refused.{Refused}
+use Rattle.sheets.specs.Reading.{Reading}
+use Rattle.sheets.specs.Answered.{fault_number, fault_flag, reading_of}
+use Rattle.sheets.proofs.Answered.{number_some}
+use Rattle.sheets.specs.Refusals.{NO_FLAG, HOLE, OVERLAP}
+use Rattle.sheets.specs.Sheet.{read_sheet, refusal}
 use Rattle.sheets.proofs.Accepted.{Accepted, accepted_law}
 use Rattle.words.specs.Texts.{word, decimal, Put}
 use Rattle.words.proofs.Puts.{put_none, put_within, ◌then◌}
@@ -52,34 +60,38 @@ module _ (flag : ℕ) {at r : ℕ} {before after : List ℕ} where
   unfolding flag_word
   put_overlap is x = rw is x
 
-pub put_no_flag : (flag at : ℕ) (text : List ℕ) → (flag ≡ HOLE → ⊥) → (flag ≡ OVERLAP → ⊥) → Put (flag_word flag) 8 at at text text
+pub put_no_flag : (at : ℕ) (text : List ℕ) → Put (flag_word NO_FLAG) 8 at at text text
 unfolding flag_word
-put_no_flag flag at text no-hole no-overlap = rw (ne_eqb flag HOLE no-hole, ne_eqb flag OVERLAP no-overlap) (put_none 8 at text)
+put_no_flag at text = put_none 8 at text
 
 -- ---- the lines of elements: e of them are put, and end at `end`
 pub record Lined (t : Layout) (at : ℕ) (before text : List ℕ) (end e : ℕ) : Type 0 where
-  pub some : e ≤ t.elements
   pub put : Put (element_lines t e) (104 * e) at end before text
 
 module _ (t : Layout) (at : ℕ) (before : List ℕ) where
   pub lined_none : Lined t at before before at 0
   unfolding element_lines
-  lined_none = record { some = omega arith; put = put_none 0 at before }
+  lined_none = record { put = put_none 0 at before }
 
   module _ {row text : List ℕ} {end e : ℕ} (ok : AllListable t row) (L : Lined t at before text end e) where
-    pub lined_room : e < t.elements → end + 104 ≤ at + 1664
-    lined_room h = omega (arith, L.put.short, ok.room)
+    module _ (turn : e < length (take t.elements t.element)) where
+      left : e < t.elements
+      left = omega (arith, turn, length-take t.elements t.element)
 
-    pub lined_more : {after : List ℕ} {r : ℕ} → e < t.elements → Put (tree_line e (families_of (element_of t e) row)) 104 end r text after → Lined t at before after r (e + 1)
-    unfolding element_lines
-    lined_more h x =
-        record {
-          some = omega arith;
-          put = rw add-one (put_within (104 * suc e) (omega arith) (L.put then rw (row_element 4 t e row ok.laid) at x));
-        }
+      pub lined_room : end + 104 ≤ at + 1664
+      lined_room = omega (arith, L.put.short, ok.room, left)
 
-    pub lined_all : t.elements ≤ e → Put (element_lines t t.elements) 1664 at end before text
-    lined_all h = let all : e ≡ t.elements = omega (arith, L.some) in rw all at (put_within 1664 (omega (arith, L.some, ok.room)) L.put)
+      pub lined_more : {after : List ℕ} {r : ℕ} → Put (tree_line e (families_of (get_or (take t.elements t.element) e no_element) row)) 104 end r text after → Lined t at before after r (e + 1)
+      unfolding element_lines
+      lined_more x =
+          record {
+            put = rw add-one (put_within (104 * suc e) (omega arith) (L.put then rw (get_or-take t.elements t.element e no_element left, row_element 4 t e row ok.laid) at x));
+          }
+
+    pub lined_all : e ≡ length (take t.elements t.element) → t.elements ≤ length t.element → Put (element_lines t t.elements) 1664 at end before text
+    lined_all h long =
+        let all : e ≡ t.elements = h ∙ length-take-le t.elements t.element long in
+        rw all at (put_within 1664 (omega (arith, all, ok.room)) L.put)
 
 -- ---- a layout and its elements, and a refusal, are the listing
 pub put_accepted : (size : ℕ) (t : Layout) {e1 r : ℕ} {t0 t1 t2 : List ℕ} → Put (layout_line t.displacement size t.elements) 97 0 e1 t0 t1
@@ -87,33 +99,34 @@ pub put_accepted : (size : ℕ) (t : Layout) {e1 r : ℕ} {t0 t1 t2 : List ℕ} 
 unfolding accepted_lines
 put_accepted size t x y = x then y
 
--- r is what was read of a sheet
-module _ (r : Reading) (xs : List ℕ) (is : r ≡ read_sheet xs) where
-  module _ {end : ℕ} {before after : List ℕ} where
-    pub listed_accepted : r.number ≡ 0 → Put (accepted_lines r.size r.layout) 1761 0 end before after → Put (listing (read_sheet xs)) 1761 0 end before after
-    unfolding listing
-    listed_accepted fine x = rw (← is, eq-eqb r.number 0 fine) x
+-- .. of a sheet that was refused
+pub listed_refused : (f : Refused) (xs : List ℕ) → reading_of (Err f) ≡ read_sheet xs → {end : ℕ} {before after : List ℕ}
+    → Put (refusal_line (fault_number f.fault) f.place (fault_flag f.fault)) 61 0 end before after → Put (listing (read_sheet xs)) 1761 0 end before after
+unfolding listing refusal
+listed_refused f xs is x =
+    rw (← is, ne_eqb (fault_number f.fault) 0 (λ none. omega (arith, number_some f.fault))) (put_within 1761 (omega arith) x)
 
-    pub listed_refused : (r.number ≡ 0 → ⊥) → Put (refusal_line r.number r.place r.flag) 61 0 end before after
-        → Put (listing (read_sheet xs)) 1761 0 end before after
-    unfolding listing
-    listed_refused fault x = rw (← is, ne_eqb r.number 0 fault) (put_within 1761 (omega arith) x)
+-- .. and of one that was accepted
+module _ (s : Sheet) (xs : List ℕ) (is : reading_of (Ok s) ≡ read_sheet xs) where
+  pub listed_accepted : {end : ℕ} {before after : List ℕ} → Put (accepted_lines s.size s.layout) 1761 0 end before after → Put (listing (read_sheet xs)) 1761 0 end before after
+  unfolding listing
+  listed_accepted x = rw (← is) x
 
-  -- an accepted sheet has what the lines ask for
-  pub accepted : r.number ≡ 0 → Accepted r
-  accepted fine = rw is (accepted_law xs (rw is at fine))
+  -- which has what the lines ask for
+  pub accepted : Accepted (reading_of (Ok s))
+  accepted = rw is (accepted_law xs (ap (λ (r : Reading). r.number) (sym is)))
 
-  pub all_listable : r.number ≡ 0 → (row : List ℕ) → row ≡ row_of r.layout.family → AllListable r.layout row
-  all_listable fine row laid =
-      let A = accepted fine in
+  pub all_listable : (row : List ℕ) → row ≡ row_of s.layout.family → AllListable s.layout row
+  all_listable row laid =
+      let A = accepted in
       record {
         room = A.ok.room;
         laid = laid;
         each = λ e h.
-            let same = row_element 4 r.layout e row laid in
+            let same = row_element 4 s.layout e row laid in
             record {
-              sound = element_sound 4 65535 r.layout A.ok e h row laid (omega arith);
-              some = rw same (element_some 4 65535 r.layout A.ok e h);
+              sound = element_sound 4 65535 s.layout A.ok e h row laid (omega arith);
+              some = rw same (element_some 4 65535 s.layout A.ok e h);
               spans = rw same (A.spans e h);
             };
       }

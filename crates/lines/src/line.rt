@@ -1,7 +1,10 @@
 // The lines of a listing, each put into a text at some place. The words are fixed, and the numbers in decimal.
 ghost use Rattle.std.specs.Prelude.{◌+◌, ◌≤◌, length};
 ghost use Rattle.words.specs.Texts.{Put};
+ghost use Rattle.sheets.specs.Answered.{fault_number, fault_flag};
 ghost use Rattle.lines.specs.Listing.{layout_line, element_line, flag_word, refusal_line};
+
+use sheets::{Fault, Refused};
 
 // Puts the line of a layout.
 pub fn put_layout(
@@ -14,8 +17,8 @@ pub fn put_layout(
     requires { at + 97 ≤ length text.old }
     ensures { Put (layout_line displacement size elements) 97 at result text.old text.new }
 {
-    let displaced = words::put_both(b"layout displacement ", displacement as u64, text, at);
-    let sized = words::put_both(b" size ", size as u64, text, displaced);
+    let displaced = words::put_both(b"layout displacement ", u64::from(displacement), text, at);
+    let sized = words::put_both(b" size ", u64::from(size), text, displaced);
     let counted = words::put_both(b" elements ", elements as u64, text, sized);
     words::put(b"\n", text, counted)
 }
@@ -34,30 +37,31 @@ pub fn put_element(
 {
     let named = words::put_number(index as u64, text, at);
     let sized = words::put_both(b" size ", size, text, named);
-    let counted = words::put_both(b" families ", families as u64, text, sized);
-    let placed = words::put_both(b" first ", first as u64, text, counted);
+    let counted = words::put_both(b" families ", u64::from(families), text, sized);
+    let placed = words::put_both(b" first ", u64::from(first), text, counted);
     words::put(b"\n", text, placed)
 }
 
-// Puts the word of a flag, if it has one.
-pub fn put_flag(flag: u8, text: &mut [u8], at: usize) -> usize
+// Puts the word of a hole or an overlap; no other fault has one.
+pub fn put_flag(fault: Fault, text: &mut [u8], at: usize) -> usize
     requires { at + 8 ≤ length text.old }
-    ensures { Put (flag_word flag) 8 at result text.old text.new }
+    ensures { Put (flag_word (fault_flag fault)) 8 at result text.old text.new }
 {
-    match flag {
-        sheets::HOLE => words::put(b" hole", text, at),
-        sheets::OVERLAP => words::put(b" overlap", text, at),
+    match fault {
+        Fault::Hole => words::put(b" hole", text, at),
+        Fault::Overlap => words::put(b" overlap", text, at),
         _ => at,
     }
 }
 
 // Puts the line of a refused sheet.
-pub fn put_refusal(number: u8, place: u64, flag: u8, text: &mut [u8], at: usize) -> usize
+pub fn put_refusal(refused: Refused, text: &mut [u8], at: usize) -> usize
     requires { at + 61 ≤ length text.old }
-    ensures { Put (refusal_line number place flag) 61 at result text.old text.new }
+    ensures { Put (refusal_line (fault_number refused.fault) refused.place (fault_flag refused.fault)) 61 at result text.old text.new }
 {
-    let named = words::put_both(b"refused ", number as u64, text, at);
-    let placed = words::put_both(b" at ", place, text, named);
-    let flagged = put_flag(flag, text, placed);
+    let number = refused.fault.number();
+    let named = words::put_both(b"refused ", u64::from(number), text, at);
+    let placed = words::put_both(b" at ", refused.place, text, named);
+    let flagged = put_flag(refused.fault, text, placed);
     words::put(b"\n", text, flagged)
 }

@@ -17,7 +17,7 @@ use Rattle.families.specs.Decoded.{family_at, forest_at, element_of, tree_of, se
 use Rattle.families.proofs.Forests.{wf_wider, size_at}
 use Rattle.families.proofs.Rows.{row_element}
 use Rattle.families.proofs.Flats.{element_some, element_sound, element_size, element_small}
-use Rattle.sheets.specs.declared.Reading.{Reading}
+use Rattle.sheets.specs.Reading.{Reading}
 use Rattle.sheets.proofs.Accepted.{Accepted}
 use Rattle.maps.specs.declared.Selection.{Selection}
 use Rattle.maps.specs.Selected.{families_of, belongs, SelectionOk, selection_of, PatternOk}

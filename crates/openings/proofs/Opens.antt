@@ -7,7 +7,7 @@ use native.Mathlib.Omega.{arith}
 use Rattle.counting.specs.Count.{count_below}
 use Rattle.families.specs.Forest.{WF}
 use Rattle.families.specs.Decoded.{row_of, LayoutOk}
-use Rattle.sheets.specs.declared.Reading.{Reading}
+use Rattle.sheets.specs.Reading.{Reading}
 use Rattle.sheets.specs.Refusals.{Test}
 use Rattle.sheets.specs.Sheet.{read_sheet}
 use Rattle.sheets.proofs.Accepted.{accepted_law}

@@ -1,7 +1,9 @@
 -- How the calls open an element, an element of each of two sheets, or two sheets: what is opened, or the first refusal. Assumes nothing: these are definitions.
 use Rattle.std.specs.Prelude.{◌≡◌, Result, Ok, Err, ℕ}
 use Rattle.families.specs.Decoded.{row_of}
-use Rattle.sheets.specs.declared.Reading.{Reading}
+use Rattle.sheets.specs.Reading.{Reading}
+use Rattle.sheets.specs.Answered.{reading_of}
+use Rattle.sheets.specs.declared.Sheet.{Sheet}
 use Rattle.maps.specs.Selected.{selection_of}
 use Rattle.openings.specs.declared.Refusal.{Refusal}
 use Rattle.openings.specs.declared.Opening.{Opening}
@@ -23,9 +25,13 @@ abbrev pub Verdict : {A : Type 0} → (checks : Said → Said) → Result A Refu
 Verdict checks (Ok given) = Passes checks
 Verdict checks (Err f) = Refuses checks f
 
+-- the reading that an accepted sheet is
+abbrev pub accepted_as : Sheet → Reading
+accepted_as s = reading_of (Ok s)
+
 -- the k-th sheet of a call is read
-abbrev pub Reads : (k : ℕ) → (r : Reading) → Result Reading Refusal → Type 0
-Reads k r (Ok reading) = Passes (unless_sheet k r) × (reading ≡ r)
+abbrev pub Reads : (k : ℕ) → (r : Reading) → Result Sheet Refusal → Type 0
+Reads k r (Ok s) = Passes (unless_sheet k r) × (accepted_as s ≡ r)
 Reads k r (Err f) = Refuses (unless_sheet k r) f
 
 -- what element e selects, and the numbers of the sheet's families in a row
@@ -45,5 +51,5 @@ OpensPair r1 r2 i j a b (Err f) = Refuses (unless_windows r1 r2 i j a b) f
 
 -- TWO SHEETS
 abbrev pub OpensSheets : (r1 r2 : Reading) → Result Sheets Refusal → Type 0
-OpensSheets r1 r2 (Ok o) = Passes (unless_sheets r1 r2) × ((o.one ≡ r1) × (o.two ≡ r2))
+OpensSheets r1 r2 (Ok o) = Passes (unless_sheets r1 r2) × ((accepted_as o.one ≡ r1) × (accepted_as o.two ≡ r2))
 OpensSheets r1 r2 (Err f) = Refuses (unless_sheets r1 r2) f

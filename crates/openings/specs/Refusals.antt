@@ -1,6 +1,7 @@
 -- The refusals of the calls: a sheet's, and 01's numbers from 12 on; and how a call goes on where there is none. Assumes nothing: these are definitions.
 use Rattle.std.specs.Prelude.{cond, List, ℕ, eqb}
-use Rattle.sheets.specs.declared.Reading.{Reading}
+use Rattle.sheets.specs.Reading.{Reading}
+use Rattle.sheets.specs.Answered.{fault_number, fault_flag}
 use Rattle.sheets.specs.Refusals.{Test, first_fault, NO_FLAG}
 use Rattle.openings.specs.declared.Which.{Which}
 use Rattle.openings.specs.declared.Which.TheVariants.{First, Second}
@@ -46,7 +47,7 @@ abbrev pub call_told : (number place : ℕ) → Told
 call_told number place = record { number = number; sheet = 0; place = place; flag = NO_FLAG }
 
 abbrev pub told : Refusal → Told
-told (Sheet k f) = record { number = f.number; sheet = sheet_number k; place = f.place; flag = f.flag }
+told (Sheet k f) = record { number = fault_number f.fault; sheet = sheet_number k; place = f.place; flag = fault_flag f.fault }
 told Element = call_told ELEMENT 0
 told Before = call_told BEFORE 0
 told Far = call_told FAR 0

@@ -6,7 +6,7 @@
 #![tactic(auto)]
 
 use maps::Selection;
-use sheets::Reading;
+use sheets::{Refused, Sheet};
 
 mod opened;
 mod paired;
@@ -31,14 +31,6 @@ pub const LAST: u64 = LIMIT - 1;
 pub enum Which {
     First,
     Second,
-}
-
-// What the reader finds at fault in a sheet: its number in 01's table, the place, and the flag of number 11.
-#[derive(Clone, Copy, Debug, PartialEq, Eq)]
-pub struct Refused {
-    pub number: u8,
-    pub place: u64,
-    pub flag: u8,
 }
 
 // Why a call is refused: by 01's table a sheet, or what else it was given. `Room` tells how many runs there are.
@@ -71,6 +63,6 @@ pub struct Pair {
 // Two sheets, both accepted.
 #[derive(Clone, Copy)]
 pub struct Sheets {
-    pub one: Reading,
-    pub two: Reading,
+    pub one: Sheet,
+    pub two: Sheet,
 }

@@ -6,21 +6,21 @@ ghost use Rattle.sheets.specs.Sheet.{read_sheet};
 ghost use Rattle.maps.specs.Selected.{belongs, SelectionOk};
 ghost use Rattle.openings.specs.Offsets.{unless_element, unless_offset, unless_window};
 ghost use Rattle.openings.specs.Buffers.{unless_buffers};
-ghost use Rattle.openings.specs.Openings.{Chosen, Opens};
+ghost use Rattle.openings.specs.Openings.{accepted_as, Chosen, Opens};
 
 use crate::{Opening, Refusal, Which, ranges, reading};
 use families::FileOffset;
-use sheets::Reading;
+use sheets::Sheet;
 
 // What an element of an accepted sheet selects.
-pub fn choose(reading: Reading, element: usize) -> Opening
-    requires rules { LayoutOk 4 65535 reading.layout }
-    requires there { element < reading.layout.elements }
-    ensures { Chosen reading element result }
+pub fn choose(sheet: Sheet, element: usize) -> Opening
+    requires rules { LayoutOk 4 65535 sheet.layout }
+    requires there { element < sheet.layout.elements }
+    ensures { Chosen (accepted_as sheet) element result }
 {
     let mut numbers = [0u32; families::ROW];
-    families::lay_out(reading.layout, &mut numbers);
-    let selection = maps::selection_of(reading.layout, reading.size, element, &numbers);
+    families::lay_out(sheet.layout, &mut numbers);
+    let selection = maps::selection_of(sheet.layout, sheet.size, element, &numbers);
     Opening { numbers, selection }
 }
 
@@ -28,9 +28,9 @@ pub fn choose(reading: Reading, element: usize) -> Opening
 pub fn open_element(sheet: &[u8], element: u64) -> Result<Opening, Refusal>
     ensures { let reading = read_sheet sheet.now in Opens (unless_element reading element) reading element result }
 {
-    let reading = reading::read(Which::First, sheet)?;
-    ranges::check_element(reading.layout.elements as u64, element)?;
-    Ok(choose(reading, element as usize))
+    let accepted = reading::read(Which::First, sheet)?;
+    ranges::check_element(accepted.layout.elements as u64, element)?;
+    Ok(choose(accepted, element as usize))
 }
 
 // Opens an element of a sheet for a file offset.

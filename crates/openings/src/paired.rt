@@ -4,7 +4,7 @@ ghost use Rattle.sheets.specs.Sheet.{read_sheet};
 ghost use Rattle.openings.specs.Refusals.{unless_fault};
 ghost use Rattle.openings.specs.Offsets.{pair_tests, both_from};
 ghost use Rattle.openings.specs.Buffers.{unless_trays};
-ghost use Rattle.openings.specs.Openings.{OpensPair, OpensSheets, Verdict};
+ghost use Rattle.openings.specs.Openings.{accepted_as, OpensPair, OpensSheets, Verdict};
 
 use crate::{Pair, Refusal, Sheets, Which, opened, ranges, reading};
 use families::FileOffset;
@@ -30,7 +30,7 @@ impl Sheets {
 
     // Where both have started: the larger displacement.
     pub fn displacement(&self) -> u32
-        ensures { result ≡ both_from self.now.one self.now.two }
+        ensures { result ≡ both_from (accepted_as self.now.one) (accepted_as self.now.two) }
     {
         let one = self.one.layout.displacement;
         one.max(self.two.layout.displacement)
@@ -44,7 +44,7 @@ impl Sheets {
         one: usize,
         two: usize,
     ) -> Result<(), Refusal>
-        ensures { Verdict (unless_trays self.now.one self.now.two a.0 b.0 one two) result }
+        ensures { Verdict (unless_trays (accepted_as self.now.one) (accepted_as self.now.two) a.0 b.0 one two) result }
     {
         ranges::check_trays(self.displacement(), a, b, one as u64, two as u64)
     }

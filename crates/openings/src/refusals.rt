@@ -20,7 +20,7 @@ impl Refusal {
         ensures { result ≡ (told self.now).number }
     {
         match self {
-            Refusal::Sheet(_, refused) => refused.number,
+            Refusal::Sheet(_, refused) => refused.fault.number(),
             Refusal::Element => 12,
             Refusal::Before => 13,
             Refusal::Far => 14,
@@ -54,8 +54,8 @@ impl Refusal {
         ensures { result ≡ (told self.now).flag }
     {
         match self {
-            Refusal::Sheet(_, refused) => refused.flag,
-            _ => sheets::NO_FLAG,
+            Refusal::Sheet(_, refused) => refused.fault.flag(),
+            _ => 0,
         }
     }
 }

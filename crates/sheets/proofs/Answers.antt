@@ -1,12 +1,15 @@
 -- From what was read to the answer: the arrays are the layout of the trees, and its pattern is judged. Assumes nothing.
 use mathlib.Core.Path.{◌≡◌, refl, sym, ap, ◌∙◌}
 use mathlib.Core.List.{List, [], ◌∷◌, ◌++◌}
-use Prim.Native.Nat.{ℕ, suc, ◌+◌, ◌-◌, ◌≤◌, ◌<◌}
+use Prim.Native.Nat.{ℕ, suc, ◌+◌, ◌-◌, ◌≤◌}
 use native.Mathlib.Nat.{zero-add}
 use native.Mathlib.Omega.{arith}
 use lib.ListN.{length, replicate, length-append, length-replicate}
 use lib.Seq.{sets, sets-eq}
-use borrow.Author.Tests.{lt-ltb, le-ltb}
+use mathlib.Core.Bool.{true≢false}
+use lib.Dec.{eqb, ltb}
+use Rattle.std.specs.Result.{is_ok}
+use Rattle.counting.proofs.Cases.{by_test}
 use Rattle.counting.specs.Gather.{tabulated}
 use Rattle.families.specs.declared.Layout.{Layout}
 use Rattle.families.specs.Forest.{Forest, nil, node, end_of}
@@ -16,15 +19,20 @@ use Rattle.families.proofs.Forests.{wf_ended, end_le}
 use Rattle.families.proofs.Rows.{row_at, row_back, drop_replicate, row_padded}
 use Rattle.families.proofs.Flats.{ElementOk, length_flats, length_elements, trees_back, layout_used, layout_ok}
 use Rattle.sheets.specs.declared.elements.Progress.{Progress}
-use Rattle.sheets.specs.declared.pattern.Uneven.{Uneven}
-use Rattle.sheets.specs.Refusals.{got, refused, HOLE_OR_OVERLAP, NO_FLAG}
+use Rattle.std.specs.Prelude.{Result, Ok, Err}
+use Rattle.sheets.specs.declared.refusals.Refused.{Refused}
+use Rattle.sheets.specs.Reading.{Reading}
+use Rattle.sheets.specs.Answered.{fault_number, reading_of}
+use Rattle.sheets.specs.Refusals.{got, refused, HOLE_OR_OVERLAP}
 use Rattle.sheets.specs.Bytes.{le32}
 use Rattle.sheets.specs.Encode.{ElementRules}
 use Rattle.sheets.specs.Sheet.{elements_of, refusal, accepted, judged, answer, read_sheet}
-use Rattle.sheets.specs.Pattern.{sizes, first_uneven}
-use Rattle.sheets.specs.Uneven.{flag_at, uneven_of}
+use Rattle.sheets.specs.Pattern.{sizes, first_uneven, flag_of}
+use Rattle.sheets.specs.Uneven.{fault_of, uneven_of}
 use Rattle.sheets.specs.Steps.{ends, start, Progressed, WrittenAll, layout_from, judged_layout}
 use Rattle.sheets.proofs.Tiling.{each_shallow}
+use Rattle.sheets.proofs.Numbered.{Numbered, sheet_numbered}
+use Rattle.sheets.proofs.Answered.{no_flag}
 
 -- ---- unused room is blank
 padded : {A : Type 0} (n : ℕ) (a : A) (vs : List A) (k : ℕ) → length vs ≡ k → k ≤ n → sets (replicate n a) 0 vs ≡ vs ++ replicate (n - k) a
@@ -45,13 +53,13 @@ module _ (Fs : List Forest) (few : length Fs ≤ 16) (room : totals Fs ≤ 256) 
       ap (λ (n : ℕ). tabulated 0 n (family_at (row_of all))) (sym long) ∙ row_back all
 
   -- behind its families the row holds none
-  pub row_used : (p : Progress) (row : List ℕ) → Progressed (got Fs) start p → WrittenAll (got Fs) empty_row row → InUse p.families (family_at row)
+  pub row_used : (p : Progress) (row : List ℕ) → Progressed (got Fs) start (Ok p) → WrittenAll (got Fs) empty_row row → InUse p.families (family_at row)
   unfolding Progressed start
   row_used p row e w =
       let U = layout_used 0 Fs room in
       rw (e, zero-add (totals Fs), row_is 0 row w) (record { most = U.most; none = λ i h. row_at (layout_of 0 Fs).family i ∙ U.none i h })
 
-  pub layout_is : (d : ℕ) (p : Progress) (row : List ℕ) → Progressed (got Fs) start p → WrittenAll (got Fs) empty_row row → layout_from d p row ≡ layout_of d Fs
+  pub layout_is : (d : ℕ) (p : Progress) (row : List ℕ) → Progressed (got Fs) start (Ok p) → WrittenAll (got Fs) empty_row row → layout_from d p row ≡ layout_of d Fs
   unfolding Progressed start layout_from layout_of WrittenAll
   layout_is d p row e w =
       rw (e, row_padded 256 (totals Fs) (flats Fs) row room w)
@@ -64,7 +72,7 @@ module _ (Fs : List Forest) (few : length Fs ≤ 16) (room : totals Fs ≤ 256) 
       })
 
 -- ---- where the elements end: the rules hold with that bound
-pub end_is : (Fs : List Forest) (p : Progress) → Progressed (got Fs) start p → p.end ≡ ends Fs
+pub end_is : (Fs : List Forest) (p : Progress) → Progressed (got Fs) start (Ok p) → p.end ≡ ends Fs
 unfolding Progressed start
 end_is Fs p e = ap (λ (q : Progress). q.end) e ∙ omega arith
 
@@ -95,27 +103,43 @@ ok_ended d Fs end q e some few room =
     layout_ok 4 (end - 1) d Fs (each_shallow Fs e) (each_ended Fs (end - 1) e (omega arith)) few room
 
 -- ---- NUMBER 11
+err-ok : {r : Refused} → ◌≡◌ {A = Result (Unit {0}) Refused} (Ok tt) (Err r) → ⊥
+err-ok e = true≢false (ap is_ok e)
+
+same_refusal : (k place : ℕ) (r : Refused) → ◌≡◌ {A = Result (Unit {0}) Refused} (Err r) (Err (record { fault = fault_of k; place = place })) → reading_of (Err r) ≡ refusal HOLE_OR_OVERLAP place (flag_of k)
+same_refusal k place r e = by_test (eqb k 0)
+    (λ none. rw none (refused_reading (rw none at e)))
+    (λ some. rw some (refused_reading (rw some at e)))
+  where
+    refused_reading : {q : Refused} → ◌≡◌ {A = Result (Unit {0}) Refused} (Err r) (Err q) → reading_of (Err r) ≡ reading_of (Err q)
+    refused_reading e = ap again e
+      where
+        again : Result (Unit {0}) Refused → Reading
+        again (Ok thing) = refusal 0 0 0
+        again (Err f) = reading_of (Err f)
+
 pub judged_is : (d : ℕ) (Fs : List Forest) → All ElementRules Fs → judged_layout (layout_of d Fs) ≡ judged d Fs
 unfolding judged_layout judged accepted
 judged_is d Fs e = rw (trees_back 4 d Fs (each_shallow Fs e)) refl
 
-module _ (t : Layout) (u : Uneven) (size : ℕ) (e : u ≡ uneven_of (trees_of 4 t)) (k : size ≡ sizes (trees_of 4 t)) where
-  pub judged_uneven : u.place < size → refusal HOLE_OR_OVERLAP u.place u.flag ≡ judged_layout t
-  unfolding judged_layout uneven_of flag_at
-  judged_uneven h =
-      let uneven = lt-ltb (first_uneven (trees_of 4 t)) (sizes (trees_of 4 t)) (omega (arith, k, ap (λ (v : Uneven). v.place) e)) in
-      rw (e, uneven) refl
+-- .. as the code finds it
+module _ (t : Layout) where
+  pub judged_even : (size : ℕ) → Ok tt ≡ uneven_of (trees_of 4 t) → size ≡ sizes (trees_of 4 t) → reading_of (Ok (record { layout = t; size = size })) ≡ judged_layout t
+  unfolding judged_layout
+  judged_even size e k = by_test (ltb (first_uneven (trees_of 4 t)) (sizes (trees_of 4 t)))
+      (λ uneven. absurd (err-ok (rw uneven at e)))
+      (λ even. rw (even, k) refl)
 
-  pub judged_even : size ≤ u.place → record { number = 0; place = 0; flag = NO_FLAG; size = size; layout = t } ≡ judged_layout t
-  unfolding judged_layout uneven_of flag_at
-  judged_even h =
-      let even = le-ltb (first_uneven (trees_of 4 t)) (sizes (trees_of 4 t)) (omega (arith, k, ap (λ (v : Uneven). v.place) e)) in
-      rw (even, k) refl
+  pub judged_uneven : (r : Refused) → Err r ≡ uneven_of (trees_of 4 t) → reading_of (Err r) ≡ judged_layout t
+  unfolding judged_layout
+  judged_uneven r e = by_test (ltb (first_uneven (trees_of 4 t)) (sizes (trees_of 4 t)))
+      (λ uneven. rw uneven (same_refusal _ _ r (rw uneven at e)))
+      (λ even. absurd (err-ok (sym (rw even at e))))
 
 -- ---- THE ANSWER
-pub answer_refused : (xs : List ℕ) (number place : ℕ) → elements_of xs ≡ refused number place → read_sheet xs ≡ refusal number place NO_FLAG
-unfolding read_sheet answer
-answer_refused xs number place e = rw e
+pub answer_refused : (xs : List ℕ) (r : Refused) → elements_of xs ≡ refused (fault_number r.fault) r.place → reading_of (Err r) ≡ read_sheet xs
+unfolding read_sheet answer Numbered
+answer_refused xs r e = rw (e, no_flag r.fault (rw e at (sheet_numbered xs))) refl
 
 pub answer_got : (xs : List ℕ) (Fs : List Forest) → elements_of xs ≡ got Fs → read_sheet xs ≡ judged (le32 xs 4) Fs
 unfolding read_sheet answer

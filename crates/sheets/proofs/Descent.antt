@@ -8,19 +8,17 @@ use Rattle.families.specs.Decoded.{row_of}
 use Rattle.families.specs.Flat.{total, flat}
 use Rattle.sheets.specs.declared.records.Limits.{Limits}
 use Rattle.sheets.specs.declared.trees.Step.{Step}
+use Rattle.std.specs.Prelude.{Ok, Err}
+use Rattle.sheets.specs.declared.refusals.Refused.{Refused}
 use Rattle.sheets.specs.Refusals.{Read, got, refused, unless, and_then}
+use Rattle.sheets.specs.Answered.{fault_number}
 use Rattle.sheets.specs.Records.{family_record, fault}
 use Rattle.sheets.specs.Sheet.{within, beside, siblings_from, forest_from}
-use Rattle.sheets.specs.Steps.{step_of, Written}
+use Rattle.sheets.specs.Steps.{Checked, Stepped, Written}
 use Rattle.sheets.proofs.Shapes.{node_at}
-use Rattle.sheets.proofs.Numbered.{Numbered, listed_some}
+use Rattle.sheets.proofs.Answered.{unless_refuses}
 
 -- ---- one step of the reader
-pub unless_fault_lem : {A : Type 0} (k place : ℕ) (next : Read A) → (k ≡ 0 → ⊥) → unless k place next ≡ refused k place
-unfolding unless
-unless_fault_lem zero place next h = absurd (h refl)
-unless_fault_lem (suc k) place next h = refl
-
 module _ {A B : Type 0} (k place : ℕ) (first : Read A) (next : A → Read B) (fine : k ≡ 0) where
   pub first_refused : (number at : ℕ) → first ≡ refused number at → unless k place (and_then first next) ≡ refused number at
   unfolding unless and_then
@@ -56,50 +54,42 @@ step xs (suc levels) m zero at deep some = absurd (omega arith)
 step xs (suc levels) m (suc k) at deep some = ap₂ (stepped xs (suc levels) m at) {x = levels} {y = suc levels - 1} {u = k} {v = suc k - 1} (omega arith) (omega arith)
 
 module _ (xs : List ℕ) (levels : ℕ) (m : Limits) (count at : ℕ) (deep : 1 ≤ levels) (some : 0 < count) where
-  pub fault_read : (k : ℕ) → k ≡ fault levels m xs 3 at → (k ≡ 0 → ⊥) → forest_from xs levels m count at ≡ refused k at
-  fault_read k e d = step xs levels m count at deep some ∙ rw (← e) (unless_fault_lem k at _ d)
+  pub fault_read : (r : Refused) → Checked (fault levels m xs 3 at) at (Err r) → forest_from xs levels m count at ≡ refused (fault_number r.fault) r.place
+  fault_read r e = step xs levels m count at deep some ∙ unless_refuses r (fault levels m xs 3 at) at _ e
 
-  module _ (k : ℕ) (e : k ≡ fault levels m xs 3 at) (fine : k ≡ 0) where
+  module _ (fine : fault levels m xs 3 at ≡ 0) where
     pub children_refused : (number place : ℕ) → children xs (levels - 1) m at ≡ refused number place → forest_from xs levels m count at ≡ refused number place
-    children_refused number place q = step xs levels m count at deep some ∙ first_refused _ at _ _ (sym e ∙ fine) number place q
+    children_refused number place q = step xs levels m count at deep some ∙ first_refused _ at _ _ fine number place q
 
     pub children_got : (kids : Forest) → children xs (levels - 1) m at ≡ got kids → forest_from xs levels m count at ≡ others xs levels m (count - 1) at kids
-    children_got kids q = step xs levels m count at deep some ∙ first_got _ at _ _ (sym e ∙ fine) kids q
+    children_got kids q = step xs levels m count at deep some ∙ first_got _ at _ _ fine kids q
 
 -- ---- what the code's answer tells
-pub record StepGot (at from : ℕ) (r : Step) (R : Read Forest) : Type 0 where
+pub record StepGot (at from : ℕ) (s : Step) (R : Read Forest) : Type 0 where
   pub forest : Forest
   pub is : R ≡ got forest
-  pub place : r.place ≡ at + 22 * total forest
-  pub end : r.end ≡ max from (end_of forest)
+  pub place : s.place ≡ at + 22 * total forest
+  pub end : s.end ≡ max from (end_of forest)
 
-pub step_got : (at from : ℕ) (r : Step) (R : Read Forest) → Numbered R → r ≡ step_of at from R → r.number ≡ 0 → StepGot at from r R
-unfolding Numbered step_of
-step_got at from r (got F) h e z = record { forest = F; is = refl; place = ap (λ (s : Step). s.place) e; end = ap (λ (s : Step). s.end) e }
-step_got at from r (refused k p) h e z = absurd (omega (arith, listed_some k h, z, ap (λ (s : Step). s.number) e))
+pub step_got : (at from : ℕ) (s : Step) (R : Read Forest) → Stepped at from R (Ok s) → StepGot at from s R
+step_got at from s (got F) e = record { forest = F; is = refl; place = ap (λ (t : Step). t.place) e; end = ap (λ (t : Step). t.end) e }
+step_got at from s (refused k p) e = absurd e
 
-pub record StepRefused (r : Step) (R : Read Forest) : Type 0 where
-  pub number : ℕ
-  pub place : ℕ
-  pub is : R ≡ refused number place
-  pub answer : r ≡ record { number = number; place = place; end = 0 }
-
-pub step_refused : (at from : ℕ) (r : Step) (R : Read Forest) → r ≡ step_of at from R → (r.number ≡ 0 → ⊥) → StepRefused r R
-unfolding step_of
-step_refused at from r (got F) e d = absurd (d (ap (λ (s : Step). s.number) e))
-step_refused at from r (refused k p) e d = record { number = k; place = p; is = refl; answer = e }
+pub step_refused : (at from : ℕ) (r : Refused) (R : Read Forest) → Stepped at from R (Err r) → R ≡ refused (fault_number r.fault) r.place
+step_refused at from r (got F) e = absurd e
+step_refused at from r (refused k p) e = ap₂ refused (sym e.0) (sym e.1)
 
 -- a refusal is handed on
-pub refused_on : (at from : ℕ) (R : Read Forest) (number place : ℕ) → R ≡ refused number place → (before after : List ℕ)
-    → (record { number = number; place = place; end = 0 } ≡ step_of at from R) × Written R before after
-unfolding step_of Written
-refused_on at from R number place e before after = rw e (refl, tt)
+pub refused_on : (at from : ℕ) (R : Read Forest) (r : Refused) → R ≡ refused (fault_number r.fault) r.place → (before after : List ℕ)
+    → Stepped at from R (Err r) × Written R before after
+unfolding Written
+refused_on at from R r e before after = rw e ((refl, refl), tt)
 
 -- no sibling to read
 pub none_on : (xs : List ℕ) (levels : ℕ) (m : Limits) (count at : ℕ) (row : List ℕ) → count ≡ 0
-    → (record { number = 0; place = at; end = m.from } ≡ step_of at m.from (forest_from xs levels m count at)) × Written (forest_from xs levels m count at) row row
-unfolding step_of Written total flat end_of row_of
+    → Stepped at m.from (forest_from xs levels m count at) (Ok (record { place = at; end = m.from })) × Written (forest_from xs levels m count at) row row
+unfolding Written total flat end_of row_of
 none_on xs levels m count at row e =
     let place : at ≡ at + 22 * 0 = omega arith in
     let end : m.from ≡ max m.from 0 = omega arith in
-    rw (e, none_read xs levels m at) (ap₂ (λ (a b : ℕ). record { number = 0; place = a; end = b }) place end, refl)
+    rw (e, none_read xs levels m at) (ap₂ (λ (a b : ℕ). record { place = a; end = b }) place end, refl)

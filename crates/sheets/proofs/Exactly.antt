@@ -3,7 +3,7 @@ use mathlib.Core.Path.{◌≡◌, ap, ◌∙◌}
 use mathlib.Core.List.{List}
 use Prim.Native.Nat.{ℕ}
 use Rattle.families.specs.Forest.{Forest}
-use Rattle.sheets.specs.declared.Reading.{Reading}
+use Rattle.sheets.specs.Reading.{Reading}
 use Rattle.sheets.specs.Bytes.{le32, Bytes}
 use Rattle.sheets.specs.Sheet.{accepted, answer, read_sheet}
 use Rattle.sheets.specs.Encode.{encode, Rules, Good}

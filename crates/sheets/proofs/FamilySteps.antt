@@ -14,13 +14,13 @@ use Rattle.counting.proofs.Cases.{lt_or_le}
 use Rattle.families.proofs.Rows.{row_append}
 use Rattle.sheets.specs.declared.records.Limits.{Limits}
 use Rattle.sheets.specs.declared.trees.Step.{Step}
+use Rattle.std.specs.Prelude.{Ok}
 use Rattle.sheets.specs.Refusals.{got}
 use Rattle.sheets.specs.Records.{family_record, last_of, fault}
 use Rattle.sheets.specs.Sheet.{within, forest_from}
-use Rattle.sheets.specs.Steps.{step_of, Written}
+use Rattle.sheets.specs.Steps.{Stepped, Written}
 use Rattle.sheets.proofs.Faults.{FamilyTaken, family_taken}
 use Rattle.sheets.proofs.Shapes.{node_at, forest_shape, family_inside}
-use Rattle.sheets.proofs.Numbered.{forest_numbered}
 use Rattle.sheets.proofs.Lent.{part_lent, part_back}
 use Rattle.sheets.proofs.Descent.{children, none_after, children_got, step_got}
 
@@ -59,27 +59,27 @@ pub record KidsRead (xs : List ℕ) (levels : ℕ) (m : Limits) (at : ℕ) (r : 
   pub room : suc (total kids) ≤ m.room
   pub inside : r.place ≤ length xs
 
-module _ (xs : List ℕ) (levels : ℕ) (m : Limits) (at : ℕ) (deep : 1 ≤ levels) (k : ℕ) (e : k ≡ fault levels m xs 3 at) (fine : k ≡ 0) where
+module _ (xs : List ℕ) (levels : ℕ) (m : Limits) (at : ℕ) (deep : 1 ≤ levels) (fine : fault levels m xs 3 at ≡ 0) where
   pub taken : FamilyTaken xs levels m at
-  taken = family_taken levels m xs at (sym e ∙ fine)
+  taken = family_taken levels m xs at fine
 
-  pub kids_read : (r : Step) → r ≡ step_of (at + 22) 0 (children xs (levels - 1) m at) → r.number ≡ 0 → KidsRead xs levels m at r
-  kids_read r q z =
-      let S = step_got (at + 22) 0 r (children xs (levels - 1) m at) (forest_numbered xs (levels - 1) (within m (family_record xs at)) (family_record xs at).children (at + 22)) q z in
+  pub kids_read : (r : Step) → Stepped (at + 22) 0 (children xs (levels - 1) m at) (Ok r) → KidsRead xs levels m at r
+  kids_read r q =
+      let S = step_got (at + 22) 0 r (children xs (levels - 1) m at) q in
       let H = forest_shape xs (levels - 1) (within m (family_record xs at)) (family_record xs at).children (at + 22) S.forest (λ h. taken.deep (omega arith)) (family_inside xs at taken.head) S.is in
       record { kids = S.forest; is = S.is; wide = H.wide; place = omega (arith, S.place); room = omega (arith, H.room, taken.room); inside = omega (arith, S.place, H.inside) }
 
   module _ (r : Step) (K : KidsRead xs levels m at r) where
     family_got : forest_from xs levels m 1 at ≡ got (node_at xs at K.kids nil)
-    family_got = children_got xs levels m 1 at deep (omega arith) k e fine K.kids K.is ∙ none_after xs levels m at K.kids
+    family_got = children_got xs levels m 1 at deep (omega arith) fine K.kids K.is ∙ none_after xs levels m at K.kids
 
-    pub family_step : ◌≡◌ {A = Step} (record { number = 0; place = r.place; end = last_of (family_record xs at) + 1 }) (step_of at m.from (forest_from xs levels m 1 at))
-    unfolding step_of total end_of
+    pub family_step : Stepped at m.from (forest_from xs levels m 1 at) (Ok (record { place = r.place; end = last_of (family_record xs at) + 1 }))
+    unfolding total end_of
     family_step =
         let f = family_record xs at in
         let p : r.place ≡ at + 22 * suc (total K.kids + 0) = omega (arith, K.place) in
         let q : last_of f + 1 ≡ max m.from (max (last_of f + 1) 0) = omega (arith, taken.fits.after, taken.fits.forward) in
-        ap₂ (λ (a b : ℕ). record { number = 0; place = a; end = b }) p q ∙ ap (step_of at m.from) (sym family_got)
+        rw family_got (ap₂ (λ (a b : ℕ). record { place = a; end = b }) p q)
 
     -- the children's numbers, written behind room for six, and then the family's own
     pub family_written : (row ys six : List ℕ) (n : ℕ) (g : Family) → 6 ≤ length row → n ≡ length row - 6 → Written (children xs (levels - 1) m at) (take n (drop 6 row)) ys

@@ -1,4 +1,5 @@
 pub mod Faults
+pub mod Answered
 pub mod Verdicts
 pub mod Shapes
 pub mod Numbered
@@ -9,7 +10,6 @@ pub mod SiblingSteps
 pub mod ElementSteps
 pub mod SheetSteps
 pub mod Tiling
-pub mod Scanning
 pub mod Summing
 pub mod Unevens
 pub mod Answers

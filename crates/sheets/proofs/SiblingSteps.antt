@@ -10,12 +10,13 @@ use Rattle.families.specs.Flat.{total, flat}
 use Rattle.families.proofs.Flats.{length_flat}
 use Rattle.sheets.specs.declared.records.Limits.{Limits}
 use Rattle.sheets.specs.declared.trees.Step.{Step}
+use Rattle.std.specs.Prelude.{Result, Ok, Err}
+use Rattle.sheets.specs.declared.refusals.Refused.{Refused}
 use Rattle.sheets.specs.Refusals.{Read, got, refused, unless, and_then}
 use Rattle.sheets.specs.Records.{family_record, last_of, fault}
 use Rattle.sheets.specs.Sheet.{beside, forest_from}
-use Rattle.sheets.specs.Steps.{step_of, Written}
+use Rattle.sheets.specs.Steps.{Stepped, Written}
 use Rattle.sheets.proofs.Shapes.{node_at, refused_not_got, unless_got, then_got, forest_shape}
-use Rattle.sheets.proofs.Numbered.{forest_numbered}
 use Rattle.sheets.proofs.Descent.{children, others, none_after, step, children_got, step_got}
 use Rattle.sheets.proofs.Lent.{rows_joined}
 use Rattle.sheets.proofs.FamilySteps.{families_read}
@@ -52,12 +53,12 @@ module _ (xs : List ℕ) (levels : ℕ) (m : Limits) (count at : ℕ) (deep : 1 
       let fine = unless_got (fault levels m xs 3 at) at _ (sym (step xs levels m 1 at deep (omega arith)) ∙ e) in
       let kids = then_got (children xs (levels - 1) m at) (others xs levels m 0 at) fine.1 in
       let one : ◌≡◌ {A = Read Forest} (got (node_at xs at kids.0 nil)) (got F) = sym (none_after xs levels m at kids.0) ∙ kids.2 in
-      (kids.0, cc, children_got xs levels m count at deep some (fault levels m xs 3 at) refl fine.0 kids.0 kids.1)
+      (kids.0, cc, children_got xs levels m count at deep some fine.0 kids.0 kids.1)
 
-  pub first_read : (r : Step) → r ≡ step_of at m.from (forest_from xs levels m 1 at) → r.number ≡ 0 → FirstRead xs levels m count at r
+  pub first_read : (r : Step) → Stepped at m.from (forest_from xs levels m 1 at) (Ok r) → FirstRead xs levels m count at r
   unfolding total end_of WF
-  first_read r q z =
-      let S = step_got at m.from r (forest_from xs levels m 1 at) (forest_numbered xs levels m 1 at) q z in
+  first_read r q =
+      let S = step_got at m.from r (forest_from xs levels m 1 at) q in
       let k = first_kids S.forest S.is in
       let e : forest_from xs levels m 1 at ≡ got (node_at xs at k.0 nil) = S.is ∙ ap got k.1 in
       let H = forest_shape xs levels m 1 at (node_at xs at k.0 nil) (λ h. absurd (omega arith)) there e in
@@ -87,16 +88,19 @@ module _ (xs : List ℕ) (levels : ℕ) (m : Limits) (count at : ℕ) (r : Step)
   rest_read =
       ap₂ (λ (l : Limits) (x : ℕ). forest_from xs levels l (count - 1) x) (ap₂ (λ (a b : ℕ). record { bound = m.bound; from = a; room = m.room - b }) O.end span_is) O.place
 
-  step_over : (R : Read Forest) → step_of r.place r.end R ≡ step_of at m.from (and_then R (λ rest. got (node_at xs at O.kids rest)))
-  unfolding step_of and_then total end_of
-  step_over (got rest) =
-      ap₂ (λ (a b : ℕ). record { number = 0; place = a; end = b })
-      (let p : r.place + 22 * total rest ≡ at + 22 * suc (total O.kids + total rest) = omega (arith, O.place) in p)
-      (let e : max r.end (end_of rest) ≡ max m.from (max (last_of (family_record xs at) + 1) (end_of rest)) = omega (arith, O.end, O.starts) in e)
-  step_over (refused number place) = refl
+  step_over : (R : Read Forest) (after : Result Step Refused) → Stepped r.place r.end R after
+      → Stepped at m.from (and_then R (λ rest. got (node_at xs at O.kids rest))) after
+  unfolding and_then total end_of
+  step_over (got rest) (Ok s) e =
+      let p : r.place + 22 * total rest ≡ at + 22 * suc (total O.kids + total rest) = omega (arith, O.place) in
+      let q : max r.end (end_of rest) ≡ max m.from (max (last_of (family_record xs at) + 1) (end_of rest)) = omega (arith, O.end, O.starts) in
+      e ∙ ap₂ (λ (a b : ℕ). record { place = a; end = b }) p q
+  step_over (got rest) (Err f) e = e
+  step_over (refused number place) (Ok s) e = e
+  step_over (refused number place) (Err f) e = e
 
-  pub rest_step : (rest : Step) → rest ≡ step_of r.place r.end (forest_from xs levels next_limits (count - 1) r.place) → rest ≡ step_of at m.from (forest_from xs levels m count at)
-  rest_step rest e = e ∙ ap (step_of r.place r.end) rest_read ∙ step_over _ ∙ ap (step_of at m.from) (sym O.all)
+  pub rest_step : (after : Result Step Refused) → Stepped r.place r.end (forest_from xs levels next_limits (count - 1) r.place) after → Stepped at m.from (forest_from xs levels m count at) after
+  rest_step after e = rw O.all (step_over _ after (rw rest_read at e))
 
   row_over : (row after ys : List ℕ) (next n : ℕ) (R : Read Forest) → next ≡ 6 * suc (total O.kids + 0) → n ≡ length after - next
       → after ≡ row_of (flat (node_at xs at O.kids nil)) ++ drop (6 * suc (total O.kids + 0)) row → Written R (take n (drop next after)) ys

@@ -1,18 +1,19 @@
 -- The first uneven offset, by a table of owners: the scan finds it, and the entry there tells its flag. Assumes nothing.
 use mathlib.Core.Path.{◌≡◌, refl, sym, ap, ap₂, ◌∙◌}
-use mathlib.Core.Bool.{Bool, true, false}
+use mathlib.Core.Bool.{Bool, true, false, ◌||◌, not, true≢false}
 use mathlib.Core.List.{List, map}
 use mathlib.Core.Logic.{⊎_elim}
-use Prim.Native.Nat.{ℕ, ◌+◌, ◌-◌, ◌≤◌, ◌<◌}
+use Prim.Native.Nat.{ℕ, ◌-◌, ◌≤◌, ◌<◌, min}
 use native.Mathlib.Nat.{zero-add}
 use native.Mathlib.Omega.{arith}
-use lib.Dec.{eqb}
-use lib.ListN.{length, replicate, get_or, length-map, length-replicate, get_or-eq_default}
-use borrow.Author.Tests.{eq-eqb, ne_eqb, eqb-true, eqb-false, lt-ltb, le-ltb}
+use lib.Dec.{eqb, ltb}
+use lib.ListN.{length, take, get_or, length-map}
+use lib.Seq.{get_or-take}
+use borrow.Author.Tests.{eq-eqb, ne_eqb, eqb-true, eqb-false, lt-ltb, le-ltb, ltb-false}
 use Rattle.counting.specs.Gather.{tabulated}
 use Rattle.counting.specs.Elements.{times}
-use Rattle.counting.proofs.Cases.{lt_or_le, same_or_not}
-use Rattle.counting.proofs.Stretches.{stretch_is, stretch_le, stretch_all, stretch_stop}
+use Rattle.counting.proofs.Cases.{lt_or_le, same_or_not, by_test}
+use Rattle.counting.proofs.Stretches.{stretch_le, stretch_all, stretch_stop}
 use Rattle.counting.proofs.Gathers.{length_tabulated, get_or_tabulated}
 use Rattle.families.specs.declared.Layout.{Layout}
 use Rattle.families.specs.Forest.{Forest, has, WF}
@@ -20,13 +21,17 @@ use Rattle.families.specs.Flat.{All}
 use Rattle.families.specs.Decoded.{tree_of, trees_of, selections, LayoutOk}
 use Rattle.families.specs.Owners.{owner}
 use Rattle.families.proofs.Owning.{owner_none, owner_many}
-use Rattle.families.proofs.Flats.{selections_trees, ok_wider, trees_ok}
-use Rattle.sheets.specs.declared.pattern.Uneven.{Uneven}
-use Rattle.sheets.specs.Refusals.{NO_FLAG, HOLE, OVERLAP}
+use Rattle.families.proofs.Flats.{selections_trees, trees_ok}
+use Rattle.std.specs.Prelude.{Some, None, Ok, Err}
+use Rattle.std.specs.List.{position, position_or_len}
+use Rattle.std.proofs.lemmas.Option.{none-some}
+use Rattle.std.proofs.lemmas.List.{length-take}
+use Rattle.std.proofs.lemmas.List.Sums.{fails_before_first}
+use Rattle.std.proofs.lemmas.List.Quantifiers.{position-Some}
+use Rattle.sheets.specs.declared.refusals.Fault.TheVariants as fault
 use Rattle.sheets.specs.Pattern.{sizes, in_elements, first_uneven}
-use Rattle.sheets.specs.Uneven.{single, scanned, flag_at, uneven_of}
+use Rattle.sheets.specs.Uneven.{single, uneven_of}
 use Rattle.sheets.proofs.Tiling.{uneven_below}
-use Rattle.sheets.proofs.Scanning.{single_yes}
 
 -- ---- the first uneven offset is at most the size, every offset before it is in one element, and it is not
 module _ (Fs : List Forest) where
@@ -41,6 +46,26 @@ module _ (Fs : List Forest) where
   uneven_at : first_uneven Fs < sizes Fs → in_elements Fs (first_uneven Fs) ≡ 1 → ⊥
   unfolding first_uneven
   uneven_at h = eqb-false _ 1 (rw zero-add at (stretch_stop (λ x. eqb (in_elements Fs x) 1) 0 (sizes Fs) h))
+
+-- ---- where the scan stops, and where not
+abbrev stop : ℕ → Bool
+stop v = eqb v 0 || eqb v 255
+
+clash : (b : Bool) → b ≡ true → not b ≡ true → ⊥
+clash true e f = true≢false (sym f)
+clash false e f = true≢false (sym e)
+
+clash' : (b : Bool) → b ≡ false → not b ≡ false → ⊥
+clash' true e f = true≢false e
+clash' false e f = true≢false f
+
+single_yes : (v : ℕ) → (v ≡ 0 → ⊥) → (v ≡ 255 → ⊥) → single v ≡ true
+single_yes v a b = rw (ne_eqb v 0 a, ne_eqb v 255 b) refl
+
+all_passed : (p : ℕ → Bool) (xs : List ℕ) → position p xs ≡ None → length xs ≤ position_or_len p xs
+all_passed p xs e = by_test (ltb (position_or_len p xs) (length xs))
+    (λ some. absurd (none-some _ (sym (rw some at e))))
+    (λ none. ltb-false _ _ none)
 
 -- ---- an owner stands for one element where one element has the offset
 owner_single : (L : List (ℕ → Bool)) (x : ℕ) → length L ≤ 254 → times L x ≡ 1 → single (owner L x) ≡ true
@@ -60,7 +85,7 @@ pub record Owners (Fs : List Forest) (table : List ℕ) : Type 0 where
   pub is : table ≡ tabulated 0 (length table) (owner (map has Fs))
 
 -- .. as `owners` paints it
-owners_table : (t : Layout) (table : List ℕ) (m : ℕ) → 0 < m → LayoutOk 4 (m - 1) t → table ≡ tabulated 0 m (owner (selections 4 t)) → Owners (trees_of 4 t) table
+pub owners_table : (t : Layout) (table : List ℕ) (m : ℕ) → 0 < m → LayoutOk 4 (m - 1) t → table ≡ tabulated 0 m (owner (selections 4 t)) → Owners (trees_of 4 t) table
 unfolding trees_of
 owners_table t table m some ok e =
     let long : length table ≡ m = ap length e ∙ length_tabulated 0 m _ in
@@ -83,64 +108,54 @@ module _ {Fs : List Forest} {table : List ℕ} (O : Owners Fs table) where
   pub uneven_inside : first_uneven Fs < sizes Fs → first_uneven Fs < length table
   uneven_inside h = omega (arith, uneven_below (length table - 1) Fs O.ruled (first_uneven Fs) (even_before Fs) h, O.some)
 
-  -- THE SCAN FINDS IT
-  pub scan_uneven : scanned table (sizes Fs) ≡ first_uneven Fs
-  unfolding scanned
-  scan_uneven = stretch_is (λ x. single (get_or table x 1)) (first_uneven Fs) 0 (sizes Fs) (uneven_le Fs) passes stops
-    where
-      passes : (y : ℕ) → 0 ≤ y → y < 0 + first_uneven Fs → single (get_or table y 1) ≡ true
-      passes y _ h = ⊎_elim
-          (λ l. rw (entry y 1 l) (owner_single (map has Fs) y few_selections (even_before Fs y (omega arith))))
-          (λ l. ap single (get_or-eq_default table 1 l))
-          (lt_or_le y (length table))
+  -- THE SCAN FINDS IT: the first entry that does not stand for one element, before the table's end and the pattern's size
+  module _ {end size : ℕ} (whole : size ≡ sizes Fs) (at : end ≡ min (length table) size) where
+    scanned : (i : ℕ) → i < end → get_or (take end table) i 0 ≡ owner (map has Fs) i
+    scanned i h = get_or-take end table i 0 h ∙ entry i 0 (omega arith)
 
-      stops : first_uneven Fs < sizes Fs → single (get_or table (0 + first_uneven Fs) 1) ≡ false
-      stops h = rw (zero-add (first_uneven Fs), entry (first_uneven Fs) 1 (uneven_inside h)) (owner_uneven (map has Fs) (first_uneven Fs) few_selections (uneven_at Fs h))
+    -- no entry before the first uneven offset stops it, and the one there does
+    even_passes : (i : ℕ) → i < end → i < first_uneven Fs → stop (get_or (take end table) i 0) ≡ true → ⊥
+    even_passes i h l e = clash (stop (owner (map has Fs) i)) (rw (scanned i h) at e) (owner_single (map has Fs) i few_selections (even_before Fs i l))
 
--- ---- a scan of such a table, of the pattern's size, that ended at `place`
-pub record Searched (Fs : List Forest) (table : List ℕ) (size place : ℕ) : Type 0 where
-  pub owners : Owners Fs table
-  pub whole : size ≡ sizes Fs
-  pub found : place ≡ scanned table size
+    uneven_stops : first_uneven Fs < end → stop (get_or (take end table) (first_uneven Fs) 0) ≡ false → ⊥
+    uneven_stops h e = clash' (stop (owner (map has Fs) (first_uneven Fs))) (rw (scanned (first_uneven Fs) h) at e) (owner_uneven (map has Fs) (first_uneven Fs) few_selections (uneven_at Fs (omega arith)))
 
--- .. after `owners` painted it
-pub searched : {t : Layout} {table : List ℕ} {m size place : ℕ}
-    → (0 < m) × (LayoutOk 4 (m - 1) t × (size ≡ sizes (trees_of 4 t))) → table ≡ tabulated 0 m (owner (selections 4 t)) → place ≡ scanned table size
-    → Searched (trees_of 4 t) table size place
-searched asked painted e = record { owners = owners_table _ _ _ asked.0 asked.1.0 painted; whole = asked.1.1; found = e }
+    pub place_found : (i : ℕ) → Some i ≡ position stop (take end table) → (i < end) × (i ≡ first_uneven Fs)
+    place_found i e =
+        let P = position-Some stop (take end table) i 0 (sym e) in
+        let inside : i < end = omega (arith, P.0, length-take end table) in (
+          inside,
+          ⊎_elim
+              (λ l. absurd (even_passes i inside l P.1))
+              (λ l. ⊎_elim (λ m. absurd (uneven_stops (omega arith) (P.2 (first_uneven Fs) m))) (λ m. omega arith) (lt_or_le (first_uneven Fs) i))
+              (lt_or_le i (first_uneven Fs)),
+        )
 
-module _ {Fs : List Forest} {table : List ℕ} {size place : ℕ} (S : Searched Fs table size place) where
-  place_is : place ≡ first_uneven Fs
-  place_is = S.found ∙ ap (scanned table) S.whole ∙ scan_uneven S.owners
+    pub none_found : None ≡ position stop (take end table) → sizes Fs ≤ first_uneven Fs
+    none_found e = ⊎_elim
+        (λ l.
+        let inside : first_uneven Fs < end = omega (arith, uneven_inside l) in
+        let all = all_passed stop (take end table) (sym e) in
+        absurd (uneven_stops inside (fails_before_first stop (take end table) (first_uneven Fs) 0 (omega (arith, all, length-take end table)))))
+        (λ l. l)
+        (lt_or_le (first_uneven Fs) (sizes Fs))
 
-  pub found_inside : place < size → place < length table
-  found_inside h = rw place_is (uneven_inside S.owners (omega (arith, place_is, S.whole)))
+    -- the answer, by the entry at the place
+    found_entry : (i : ℕ) → Some i ≡ position stop (take end table) → get_or table i 0 ≡ owner (map has Fs) (first_uneven Fs)
+    found_entry i e = let P = place_found i e in entry i 0 (omega (arith, P.0)) ∙ ap (owner (map has Fs)) P.1
 
-  found_entry : place < size → get_or table place 0 ≡ owner (map has Fs) place
-  found_entry h = entry S.owners place 0 (found_inside h)
+    uneven_below_size : (i : ℕ) → Some i ≡ position stop (take end table) → first_uneven Fs < sizes Fs
+    uneven_below_size i e = let P = place_found i e in omega (arith, P.0, P.1)
 
-  -- the answer with the flag of that place
-  answer_is : (flag : ℕ) → flag_at Fs place ≡ flag → ◌≡◌ {A = Uneven} (record { place = place; flag = flag }) (uneven_of Fs)
-  unfolding uneven_of
-  answer_is flag e = rw (← place_is, e) refl
+    pub found_hole : (i : ℕ) → Some i ≡ position stop (take end table) → get_or table i 0 ≡ 0 → Err (record { fault = fault.Hole; place = i }) ≡ uneven_of Fs
+    found_hole i e z =
+        let none : in_elements Fs (first_uneven Fs) ≡ 0 = (owner_none (map has Fs) (first_uneven Fs)).0 (sym (found_entry i e) ∙ z) in
+        rw (lt-ltb (first_uneven Fs) (sizes Fs) (uneven_below_size i e), eq-eqb (in_elements Fs (first_uneven Fs)) 0 none, (place_found i e).1) refl
 
-  pub found_hole : place < size → get_or table place 0 ≡ 0 → ◌≡◌ {A = Uneven} (record { place = place; flag = HOLE }) (uneven_of Fs)
-  unfolding flag_at
-  found_hole h e =
-      let none : in_elements Fs place ≡ 0 = (owner_none (map has Fs) place).0 (sym (found_entry h) ∙ e) in
-      answer_is HOLE (rw (lt-ltb place (sizes Fs) (omega (arith, S.whole)), eq-eqb (in_elements Fs place) 0 none) refl)
+    pub found_overlap : (i : ℕ) → Some i ≡ position stop (take end table) → (get_or table i 0 ≡ 0 → ⊥) → Err (record { fault = fault.Overlap; place = i }) ≡ uneven_of Fs
+    found_overlap i e d =
+        let some : in_elements Fs (first_uneven Fs) ≡ 0 → ⊥ = λ z. d (found_entry i e ∙ (owner_none (map has Fs) (first_uneven Fs)).1 z) in
+        rw (lt-ltb (first_uneven Fs) (sizes Fs) (uneven_below_size i e), ne_eqb (in_elements Fs (first_uneven Fs)) 0 some, (place_found i e).1) refl
 
-  pub found_overlap : place < size → (get_or table place 0 ≡ 0 → ⊥) → ◌≡◌ {A = Uneven} (record { place = place; flag = OVERLAP }) (uneven_of Fs)
-  unfolding flag_at
-  found_overlap h e =
-      let some : in_elements Fs place ≡ 0 → ⊥ = λ z. e (found_entry h ∙ (owner_none (map has Fs) place).1 z) in
-      answer_is OVERLAP (rw (lt-ltb place (sizes Fs) (omega (arith, S.whole)), ne_eqb (in_elements Fs place) 0 some) refl)
-
-  pub found_none : size ≤ place → ◌≡◌ {A = Uneven} (record { place = place; flag = NO_FLAG }) (uneven_of Fs)
-  unfolding flag_at
-  found_none h = answer_is NO_FLAG (rw (le-ltb place (sizes Fs) (omega (arith, S.whole))) refl)
-
--- ---- a fresh table of m places does where the elements end at `end`, no later than the table
-pub room_enough : {t : Layout} {size end : ℕ} (m : ℕ) → 1 ≤ end → end ≤ m → LayoutOk 4 (end - 1) t → size ≡ sizes (trees_of 4 t)
-    → let table : List ℕ = replicate m 0 in (table ≡ replicate (length table) 0) × ((0 < length table) × (LayoutOk 4 (length table - 1) t × (size ≡ sizes (trees_of 4 t))))
-room_enough {t} {size} {end} m some most ok e = rw (length-replicate {A = ℕ} m 0) (refl, (omega arith, (ok_wider 4 (end - 1) (m - 1) t (omega arith) ok, e)))
+    pub found_none : None ≡ position stop (take end table) → Ok tt ≡ uneven_of Fs
+    found_none e = rw (le-ltb (first_uneven Fs) (sizes Fs) (none_found e)) refl

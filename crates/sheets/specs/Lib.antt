@@ -1,8 +1,10 @@
 pub mod Refusals
+pub mod Reading
 pub mod Bytes
 pub mod Records
 pub mod Pattern
 pub mod Sheet
+pub mod Answered
 pub mod Encode
 pub mod Uneven
 pub mod Steps

@@ -5,7 +5,7 @@ use Rattle.families.specs.declared.Family.{Family}
 use Rattle.families.specs.Forest.{Forest, nil, node}
 use Rattle.families.specs.Flat.{total, totals, layout_of}
 use Rattle.sheets.specs.declared.records.Limits.{Limits}
-use Rattle.sheets.specs.declared.Reading.{Reading}
+use Rattle.sheets.specs.Reading.{Reading}
 use Rattle.sheets.specs.Refusals.{Read, got, refused, unless, and_then, ◌when◌, first_fault, TRAILING, HOLE_OR_OVERLAP, NO_FLAG}
 use Rattle.sheets.specs.Bytes.{le16, le32}
 use Rattle.sheets.specs.Records.{HEADER_KIND, ELEMENT_KIND, FAMILY_KIND, family_record, last_of, fault}

@@ -1,5 +1,5 @@
 -- What the code says while it reads. The answer to a sheet does not depend on these. Assumes nothing: these are definitions.
-use Rattle.std.specs.Prelude.{◌≡◌, List, [], ◌∷◌, ◌++◌, cond, ℕ, ◌+◌, ◌*◌, max, ltb, length, drop, set, replicate}
+use Rattle.std.specs.Prelude.{◌≡◌, List, [], ◌∷◌, ◌++◌, cond, ℕ, Result, Ok, Err, ◌+◌, ◌*◌, max, ltb, length, drop, set, replicate}
 use Rattle.std.proofs.lemmas.List.Edits.{sets}
 use Rattle.families.specs.Forest.{Forest, end_of}
 use Rattle.counting.specs.Gather.{tabulated}
@@ -8,15 +8,28 @@ use Rattle.families.specs.Decoded.{no_element, trees_of, row_of, family_at}
 use Rattle.families.specs.Flat.{total, flat, totals, flats, elements_at}
 use Rattle.sheets.specs.declared.trees.Step.{Step}
 use Rattle.sheets.specs.declared.elements.Progress.{Progress}
-use Rattle.sheets.specs.declared.Reading.{Reading}
+use Rattle.sheets.specs.declared.refusals.Refused.{Refused}
+use Rattle.sheets.specs.Reading.{Reading}
+use Rattle.sheets.specs.Answered.{fault_number}
 use Rattle.sheets.specs.Refusals.{Read, got, refused, HOLE_OR_OVERLAP, NO_FLAG}
 use Rattle.sheets.specs.Sheet.{refusal}
 use Rattle.sheets.specs.Pattern.{sizes, in_elements, first_uneven, flag_of}
 
+-- a refusal in the code's words
+abbrev pub Refuses : Refused → (number place : ℕ) → Type 0
+Refuses r number place = (fault_number r.fault ≡ number) × (r.place ≡ place)
+
+-- a record's fault, where it is refused
+abbrev pub Checked : (fault at : ℕ) → Result (Unit {0}) Refused → Type 0
+Checked fault at (Ok thing) = fault ≡ 0
+Checked fault at (Err r) = Refuses r fault at
+
 -- after siblings at `at` that start at `from` or later: where the next record starts, and the first offset past them all
-unfoldable pub step_of : (at from : ℕ) → Read Forest → Step
-step_of at from (got F) = record { number = 0; place = at + 22 * total F; end = max from (end_of F) }
-step_of at from (refused number place) = record { number = number; place = place; end = 0 }
+abbrev pub Stepped : (at from : ℕ) → Read Forest → Result Step Refused → Type 0
+Stepped at from (got F) (Ok s) = s ≡ record { place = at + 22 * total F; end = max from (end_of F) }
+Stepped at from (got F) (Err r) = ⊥
+Stepped at from (refused number place) (Ok s) = ⊥
+Stepped at from (refused number place) (Err r) = Refuses r number place
 
 -- siblings that were read stand in front of the row, and what stood behind them stays
 unfoldable pub Written : Read Forest → (before after : List ℕ) → Type 0
@@ -29,17 +42,13 @@ unfoldable pub ends : List Forest → ℕ
 ends [] = 0
 ends (F ∷ Fs) = max (end_of F) (ends Fs)
 
--- behind the header, with nothing read; a refusal; and one element more
+-- behind the header, with nothing read; and one element more
 unfoldable pub start : Progress
-start = record { number = 0; place = 10; end = 0; elements = 0; families = 0; element = replicate 16 no_element }
-
-abbrev pub stopped : Progress → (number place : ℕ) → Progress
-stopped p number place = record { number = number; place = place; end = p.end; elements = p.elements; families = p.families; element = p.element }
+start = record { place = 10; end = 0; elements = 0; families = 0; element = replicate 16 no_element }
 
 abbrev pub with_element : Progress → (tops span : ℕ) → Step → Progress
 with_element p tops span step =
     record {
-      number = p.number;
       place = step.place;
       end = max p.end step.end;
       elements = p.elements + 1;
@@ -48,17 +57,18 @@ with_element p tops span step =
     }
 
 -- after elements that were read, or a refusal
-unfoldable pub Progressed : Read (List Forest) → (before after : Progress) → Type 0
-Progressed (got Fs) p after =
+unfoldable pub Progressed : Read (List Forest) → (before : Progress) → Result Progress Refused → Type 0
+Progressed (got Fs) p (Ok after) =
     after ≡ record {
-      number = p.number;
       place = p.place + (6 * length Fs + 22 * totals Fs);
       end = max p.end (ends Fs);
       elements = p.elements + length Fs;
       families = p.families + totals Fs;
       element = sets p.element p.elements (elements_at p.families Fs);
     }
-Progressed (refused number place) p after = (after.number ≡ number) × (after.place ≡ place)
+Progressed (got Fs) p (Err r) = ⊥
+Progressed (refused number place) p (Ok after) = ⊥
+Progressed (refused number place) p (Err r) = Refuses r number place
 
 unfoldable pub WrittenAll : Read (List Forest) → (before after : List ℕ) → Type 0
 WrittenAll (got Fs) before after = after ≡ row_of (flats Fs) ++ drop (6 * totals Fs) before

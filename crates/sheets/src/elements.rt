@@ -2,18 +2,18 @@
 ghost use Rattle.std.specs.Prelude.{◌≡◌, ◌+◌, ◌-◌, ◌*◌, ◌≤◌, ◌<◌, length};
 ghost use Rattle.families.specs.Decoded.{ROW};
 ghost use Rattle.sheets.specs.Sheet.{top, elements_from, elements_of};
-ghost use Rattle.sheets.specs.Steps.{Progressed, WrittenAll, stopped, with_element, start};
+ghost use Rattle.sheets.specs.Steps.{Progressed, WrittenAll, with_element, start};
 
 use crate::records::Limits;
+use crate::refusals::{Fault, Refused};
 use crate::trees::Step;
 use crate::{digits, records, trees};
 use families::Element;
 
 // How far a sheet was read: where the next record starts, the first offset past all families, how many elements and families there are, and the
-// elements. Where the number is not 0, a refusal and its place.
+// elements.
 #[derive(Clone, Copy)]
 pub struct Progress {
-    pub number: u8,
     pub place: usize,
     pub end: u64,
     pub elements: usize,
@@ -22,47 +22,41 @@ pub struct Progress {
 }
 
 // Reads the header and all elements; no byte may follow them.
-pub fn read_records(sheet: &[u8], numbers: &mut [u32]) -> Progress
+pub fn read_records(sheet: &[u8], numbers: &mut [u32]) -> Result<Progress, Refused>
     requires { length numbers.old ≡ ROW }
-    ensures fact_1 { Progressed (elements_of sheet.now) start result }
-    ensures fact_2 { WrittenAll (elements_of sheet.now) numbers.old numbers.new }
+    ensures progress { Progressed (elements_of sheet.now) start result }
+    ensures row { WrittenAll (elements_of sheet.now) numbers.old numbers.new }
 {
-    let begin = at_the_start();
-    let fault = records::record_fault(sheet, records::HEADER, 0, 4, top_limits(256));
-    if fault != 0 {
-        return stop(begin, fault, 0);
-    }
+    records::check_record(sheet, records::HEADER, 0, 4, top_limits(256))?;
     let count = digits::le16_at(sheet, 8);
-    let all = read_elements(sheet, count, begin, numbers);
-    if all.number != 0 {
-        return all;
+    let all = read_elements(sheet, count, at_the_start(), numbers)?;
+    if all.place < sheet.len() {
+        return Err(Refused {
+            fault: Fault::Trailing,
+            place: all.place as u64,
+        });
     }
-    let place = all.place;
-    if place < sheet.len() {
-        return stop(all, crate::TRAILING, place);
-    }
-    all
+    Ok(all)
 }
 
 // Reads `count` elements more. It calls itself for those after the first, so no more than 17 calls are open at once.
-pub fn read_elements(sheet: &[u8], count: u32, done: Progress, numbers: &mut [u32]) -> Progress
+pub fn read_elements(
+    sheet: &[u8],
+    count: u32,
+    done: Progress,
+    numbers: &mut [u32],
+) -> Result<Progress, Refused>
     requires { (done.place ≤ length sheet.now) × ((done.elements + count ≤ 16) × ((done.families ≤ 256) × (length numbers.old ≡ 6 * (256 - done.families)))) }
     ensures { (Progressed (elements_from sheet.now (256 - done.families) count done.place) done result) × (WrittenAll (elements_from sheet.now (256 - done.families) count done.place) numbers.old numbers.new) }
 {
     if count == 0 {
-        return done;
+        return Ok(done);
     }
     let at = done.place;
     let limits = top_limits(256 - done.families);
-    let fault = records::record_fault(sheet, records::ELEMENT, at, 4, limits);
-    if fault != 0 {
-        return stop(done, fault, at);
-    }
+    records::check_record(sheet, records::ELEMENT, at, 4, limits)?;
     let tops = digits::le16_at(sheet, at + 4);
-    let step = trees::read_siblings(sheet, at + 6, tops, 4, limits, numbers);
-    if step.number != 0 {
-        return stop(done, step.number, step.place);
-    }
+    let step = trees::read_siblings(sheet, at + 6, tops, 4, limits, numbers)?;
     // an element record takes 6 bytes, a family record 22, and a family six numbers
     let span = (step.place - at - 6) / 22;
     let next = 6 * span;
@@ -76,8 +70,8 @@ pub fn read_elements(sheet: &[u8], count: u32, done: Progress, numbers: &mut [u3
 
 // One element more, with its count of top families and of families of all levels.
 pub fn add_element(done: Progress, tops: u32, span: u32, step: Step) -> Progress
-    requires fact_1 { done.elements < 16 }
-    requires fact_2 { done.families + span ≤ 256 }
+    requires elements { done.elements < 16 }
+    requires families { done.families + span ≤ 256 }
     ensures { result ≡ with_element done tops span step }
 {
     let e = done.elements;
@@ -90,23 +84,12 @@ pub fn add_element(done: Progress, tops: u32, span: u32, step: Step) -> Progress
     next.elements = e + 1;
     next.families = done.families + span;
     next.place = step.place;
-    if next.end < step.end {
-        next.end = step.end;
-    }
-    next
-}
-
-// Reading has stopped with a refusal.
-pub fn stop(done: Progress, number: u8, place: usize) -> Progress
-    ensures { result ≡ stopped done number place }
-{
-    let mut next = done;
-    next.number = number;
-    next.place = place;
+    next.end = done.end.max(step.end);
     next
 }
 
 // Behind the header, with nothing read.
+#[tactic(auto, unfolding(crate::specs::Steps::start))]
 pub fn at_the_start() -> Progress
     ensures { result ≡ start }
 {
@@ -116,7 +99,6 @@ pub fn at_the_start() -> Progress
         span: 0,
     };
     Progress {
-        number: 0,
         place: 10,
         end: 0,
         elements: 0,

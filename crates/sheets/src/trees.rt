@@ -1,16 +1,16 @@
 // Trees: the families of an element, read in sheet order, each followed by its children, and written into a row of numbers.
 ghost use Rattle.std.specs.Prelude.{◌≡◌, ◌*◌, ◌≤◌, length};
 ghost use Rattle.sheets.specs.Sheet.{within, forest_from};
-ghost use Rattle.sheets.specs.Steps.{step_of, Written};
+ghost use Rattle.sheets.specs.Steps.{Stepped, Written};
 
 use crate::records;
 use crate::records::Limits;
+use crate::refusals::Refused;
 use families::{Family, put_family};
 
-// What reading siblings gives: where the next record starts, and the first offset past them. Where the number is not 0, a refusal and its place.
+// What reading siblings gives: where the next record starts, and the first offset past them.
 #[derive(Clone, Copy)]
 pub struct Step {
-    pub number: u8,
     pub place: usize,
     pub end: u64,
 }
@@ -25,21 +25,17 @@ pub fn read_siblings(
     levels: u32,
     limits: Limits,
     numbers: &mut [u32],
-) -> Step
+) -> Result<Step, Refused>
     requires { (at ≤ length sheet.now) × ((count ≤ 65535 * levels) × ((limits.room ≤ 256) × (length numbers.old ≡ 6 * limits.room))) }
-    ensures { (result ≡ step_of at limits.from (forest_from sheet.now levels limits count at)) × (Written (forest_from sheet.now levels limits count at) numbers.old numbers.new) }
+    ensures { (Stepped at limits.from (forest_from sheet.now levels limits count at) result) × (Written (forest_from sheet.now levels limits count at) numbers.old numbers.new) }
 {
     if count == 0 {
-        return Step {
-            number: 0,
+        return Ok(Step {
             place: at,
             end: limits.from,
-        };
+        });
     }
-    let first = read_family(sheet, at, levels, limits, numbers);
-    if first.number != 0 {
-        return first;
-    }
+    let first = read_family(sheet, at, levels, limits, numbers)?;
     // a family record takes 22 bytes, and a family six numbers
     let span = (first.place - at) / 22;
     let others = Limits {
@@ -66,18 +62,11 @@ pub fn read_family(
     levels: u32,
     limits: Limits,
     numbers: &mut [u32],
-) -> Step
+) -> Result<Step, Refused>
     requires { (at ≤ length sheet.now) × ((1 ≤ levels) × ((limits.room ≤ 256) × (length numbers.old ≡ 6 * limits.room))) }
-    ensures { (result ≡ step_of at limits.from (forest_from sheet.now levels limits 1 at)) × (Written (forest_from sheet.now levels limits 1 at) numbers.old numbers.new) }
+    ensures { (Stepped at limits.from (forest_from sheet.now levels limits 1 at) result) × (Written (forest_from sheet.now levels limits 1 at) numbers.old numbers.new) }
 {
-    let fault = records::record_fault(sheet, records::FAMILY, at, levels, limits);
-    if fault != 0 {
-        return Step {
-            number: fault,
-            place: at,
-            end: 0,
-        };
-    }
+    records::check_record(sheet, records::FAMILY, at, levels, limits)?;
     let mut f = records::family_record(sheet, at);
     let kids = read_siblings(
         sheet,
@@ -86,18 +75,14 @@ pub fn read_family(
         levels - 1,
         inner_limits(limits, f),
         &mut numbers[6..],
-    );
-    if kids.number != 0 {
-        return kids;
-    }
+    )?;
     let span = (kids.place - at) / 22;
     f.span = span as u32;
     put_family(f, &mut numbers[0..6]);
-    Step {
-        number: 0,
+    Ok(Step {
         place: kids.place,
         end: records::last_byte(f) + 1,
-    }
+    })
 }
 
 // The limits of a family's children.

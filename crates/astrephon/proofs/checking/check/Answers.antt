@@ -4,4 +4,4 @@ use Rattle.openings.proofs.Opens.{read_rules}
 use Rattle.astrephon.proofs.checking.check.Goals as goal
 
 pub overflow_cast-result : goal.overflow_cast-result
-overflow_cast-result c = omega (arith, (read_rules c.args.sheet.now 1 _ c.in_ok-reading.ensures).room)
+overflow_cast-result c = omega (arith, (read_rules c.args.sheet.now 1 _ c.in_ok-accepted.ensures).room)

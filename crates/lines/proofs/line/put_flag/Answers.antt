@@ -1,16 +1,17 @@
 -- `put_flag` meets its contract. Assumes nothing.
-use native.Mathlib.Omega.{arith}
+use mathlib.Core.Path.{refl}
+use Rattle.sheets.proofs.Answered.{other_flag}
 use Rattle.lines.proofs.Lines.{put_hole, put_overlap, put_no_flag}
 use Rattle.words.specs.Texts.{word}
 use Rattle.lines.proofs.line.put_flag.Goals as goal
 
-pub returns-in-1 : goal.returns-in-1
+pub returns-in-Hole : goal.returns-in-Hole
 unfolding word
-returns-in-1 c = put_hole _ (omega arith) c.put.ensures
+returns-in-Hole c = rw c.in-Hole.is (put_hole _ refl c.put.ensures)
 
-pub returns-in-2 : goal.returns-in-2
+pub returns-in-Overlap : goal.returns-in-Overlap
 unfolding word
-returns-in-2 c = put_overlap _ (omega arith) c.put-in-2.ensures
+returns-in-Overlap c = rw c.in-Overlap.is (put_overlap _ refl c.put-in-Overlap.ensures)
 
 pub returns-in_default : goal.returns-in_default
-returns-in_default c = put_no_flag _ _ _ (λ e. omega arith) (λ e. omega arith)
+returns-in_default c = rw (other_flag _ c.in_default.not-Hole c.in_default.not-Overlap) (put_no_flag _ _)

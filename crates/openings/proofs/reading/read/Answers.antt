@@ -1,9 +1,9 @@
 -- `read` meets its contract. Assumes nothing.
-use Rattle.openings.proofs.Orders.{sheet_passed, sheet_refused}
+use Rattle.openings.proofs.Readings.{accepted_reads, refused_reads}
 use Rattle.openings.proofs.reading.read.Goals as goal
 
-pub returns-then-reading-ne0 : goal.returns-then-reading-ne0
-returns-then-reading-ne0 c = λ next. rw (← c.read-reading.ensures) (sheet_refused next _ c.read-reading.result c.if-reading-ne0.true)
+pub returns-in-Ok : goal.returns-in-Ok
+returns-in-Ok c = accepted_reads c.args.which _ c.in-Ok.accepted c.in-Ok.ensures
 
-pub returns : goal.returns
-returns c = (λ next. rw (← c.read-reading.ensures) (sheet_passed next _ c.read-reading.result c.if-reading-ne0.false), c.read-reading.ensures)
+pub returns-in-Err : goal.returns-in-Err
+returns-in-Err c = refused_reads c.args.which _ c.in-Err.refused c.in-Err.ensures

@@ -6,19 +6,19 @@ use Prim.Native.Nat.{ℕ, suc, ◌+◌, ◌-◌, ◌*◌, ◌/◌, ◌≤◌}
 use mathlib.Core.List.{List, ◌++◌}
 use lib.ListN.{length, take, drop}
 use borrow.Rule.Slice.PartMut.{same_len_mid}
-use lib.Seq.{length-take-le}
-use Rattle.sheets.specs.Sheet.{forest_from}
+use Rattle.std.specs.Prelude.{Ok}
+use Rattle.std.proofs.lemmas.Result.{err_from_is_err_and}
 use Rattle.sheets.proofs.Faults.{FamilyTaken}
 use Rattle.sheets.proofs.Shapes.{family_inside}
 use Rattle.sheets.proofs.Descent.{children, fault_read, children_refused, refused_on, none_on, step_refused}
 use Rattle.sheets.proofs.SiblingSteps.{FirstRead, first_read, siblings_refused, span_is, rest_step, rest_written}
-use Rattle.sheets.proofs.FamilySteps.{taken, KidsRead, kids_read, children_deep, families_read, span_most, family_step, family_written, spanned}
+use Rattle.sheets.proofs.FamilySteps.{taken, KidsRead, kids_read, children_deep, families_read, family_step, family_written, spanned}
 use Rattle.sheets.proofs.Lent.{room_behind}
 use Rattle.sheets.specs.Records.{family_record, last_of}
 use Rattle.families.specs.Flat.{total}
-use Rattle.sheets.specs.Steps.{step_of, Written}
+use Rattle.sheets.specs.Steps.{Stepped, Written}
 use Rattle.sheets.proofs.trees.+read_family_read_siblings.Goals as goal
-use Rattle.sheets.proofs.trees.+read_family_read_siblings.Goals.{read_family-After-read_siblings-kids, read_family-After-slice_known-1, read_family-After-struct_known-2-1, read_family-Else-fault-ne0, read_siblings-After-read_family-arg-1, read_siblings-After-read_family-first, read_siblings-After-struct_known-2-1, read_siblings-Start}
+use Rattle.sheets.proofs.trees.+read_family_read_siblings.Goals.{read_family-After-read_siblings, read_family-After-slice_known-1, read_family-In_ok-kids, read_family-In_ok-check_record, read_siblings-After-read_family-arg-1, read_siblings-After-read_family, read_siblings-In_ok-first, read_siblings-Start}
 
 -- what the caller gives
 level-left : (t : ℕ) (c : read_family-After-slice_known-1 t) → 1 ≤ c.args.levels
@@ -31,120 +31,103 @@ row-long : (t : ℕ) (c : read_family-After-slice_known-1 t) → length c.args.n
 row-long t c = omega arith
 
 -- the family record at hand has no fault
-taken_at : (t : ℕ) (c : read_family-Else-fault-ne0 t)
+taken_at : (t : ℕ) (c : read_family-In_ok-check_record t)
     → let a = c.args in
     FamilyTaken a.sheet.now a.levels a.limits a.at
-taken_at t c = taken _ _ _ _ (level-left t (goal.at.read_family-family_record-f-requires t c).After-slice_known-1) _ c.record_fault-fault.ensures c.if-fault-ne0.false
+taken_at t c = taken _ _ _ _ (level-left t (goal.at.read_family-family_record-f-requires t c).After-slice_known-1) c.in_ok-check_record.ensures
 
 -- what reading its children answered
-kids-step : (t : ℕ) (c : read_family-After-read_siblings-kids t)
+kids-step : (t : ℕ) (c : read_family-In_ok-kids t)
     → let a = c.args in
-    c.read_siblings-kids.result ≡ step_of (a.at + 22) 0 (children a.sheet.now (a.levels - 1) a.limits a.at)
-kids-step t c = rw (c.inner_limits.ensures, c.family_record-f.ensures.fact_1) at c.read_siblings-kids.ensures.0
+    Stepped (a.at + 22) 0 (children a.sheet.now (a.levels - 1) a.limits a.at) (Ok c.in_ok-kids.kids)
+kids-step t c = rw (c.inner_limits.ensures, c.family_record-f.ensures.held) at c.in_ok-kids.ensures.0
 
-kids-at : (t : ℕ) (c : read_family-After-struct_known-2-1 t)
+kids-at : (t : ℕ) (c : read_family-In_ok-kids t)
     → let a = c.args in
-    KidsRead a.sheet.now a.levels a.limits a.at c.read_siblings-kids.result
-kids-at t c =
-    kids_read _ _ _ _ (level-left t (goal.at.read_family-overflow_sub-span t c).After-slice_known-1) _ c.record_fault-fault.ensures c.if-fault-ne0.false _ (kids-step t (goal.at.read_family-overflow_sub-span t c).After-read_siblings-kids) c.if-kids-ne0.false
-
-kids-few : (t : ℕ) (c : read_family-After-struct_known-2-1 t) → suc (total (kids-at t c).kids) ≤ 256
-kids-few t c =
-    omega (arith, (kids-at t c).room, room_small t (goal.at.read_family-overflow_sub-span t c).After-slice_known-1)
+    KidsRead a.sheet.now a.levels a.limits a.at c.in_ok-kids.kids
+kids-at t c = kids_read _ _ _ _ (omega arith) c.in_ok-check_record.ensures _ (kids-step t c)
 
 -- the row with the children's numbers in it, as long as it was
-abbrev kids-row : (t : ℕ) (c : read_family-After-read_siblings-kids t) → List ℕ
+abbrev kids-row : (t : ℕ) (c : read_family-After-read_siblings t) → List ℕ
 kids-row t c =
     let row = c.args.numbers.now in
-    take 6 row ++ (c.read_siblings-kids.new.numbers ++ drop (length row - 6) (drop 6 row))
+    take 6 row ++ (c.read_siblings.new.numbers ++ drop (length row - 6) (drop 6 row))
 
-kids-row-long : (t : ℕ) (c : read_family-After-read_siblings-kids t)
+kids-row-long : (t : ℕ) (c : read_family-After-read_siblings t)
     → length (kids-row t c) ≡ length c.args.numbers.now
 kids-row-long t c =
     let row = c.args.numbers.now in
-    same_len_mid 6 (length row - 6) row c.read_siblings-kids.new.numbers (search rules)
+    same_len_mid 6 (length row - 6) row c.read_siblings.new.numbers (search rules)
 
-kids-row-room : (t : ℕ) (c : read_family-After-read_siblings-kids t) → 6 ≤ length (kids-row t c)
-kids-row-room t c = omega (arith, kids-row-long t c, (taken _ _ _ _ (omega arith) _ c.record_fault-fault.ensures c.if-fault-ne0.false).room)
+kids-row-room : (t : ℕ) (c : read_family-After-read_siblings t) → 6 ≤ length (kids-row t c)
+kids-row-room t c = omega (arith, kids-row-long t c, (taken _ _ _ _ (omega arith) c.in_ok-check_record.ensures).room)
 
 -- and they stand behind room for the family's own
-kids-written : (t : ℕ) (c : read_family-After-read_siblings-kids t)
+kids-written : (t : ℕ) (c : read_family-After-read_siblings t)
     → let a = c.args in
-    Written (children a.sheet.now (a.levels - 1) a.limits a.at) (take (length a.numbers.now - 6) (drop 6 a.numbers.now)) c.read_siblings-kids.new.numbers
-kids-written t c = rw (c.inner_limits.ensures, c.family_record-f.ensures.fact_1) at c.read_siblings-kids.ensures.1
+    Written (children a.sheet.now (a.levels - 1) a.limits a.at) (take (length a.numbers.now - 6) (drop 6 a.numbers.now)) c.read_siblings.new.numbers
+kids-written t c = rw (c.inner_limits.ensures, c.family_record-f.ensures.held) at c.read_siblings.ensures.1
 
-pub read_family-returns-then-fault-ne0 : goal.read_family-returns-then-fault-ne0
-read_family-returns-then-fault-ne0 t c =
+pub read_family-returns-in_err-check_record : goal.read_family-returns-in_err-check_record
+read_family-returns-in_err-check_record t c =
     let a = c.args in
-    refused_on a.at a.limits.from (forest_from a.sheet.now a.levels a.limits 1 a.at) _ a.at
-    (fault_read _ _ _ 1 _ (level-left t (goal.at.read_family-returns-then-fault-ne0 t c).After-slice_known-1) (omega arith) _ c.record_fault-fault.ensures c.if-fault-ne0.true) _ _
+    let p = err_from_is_err_and c.from_residual.result c.from_residual.ensures.1 in
+    let is = fault_read a.sheet.now a.levels a.limits 1 a.at (omega arith) (omega arith) c.in_err-check_record.field-0.0 c.in_err-check_record.ensures in
+    rw (p.1, p.2) (refused_on _ _ _ c.in_err-check_record.field-0.0 is _ _)
 
 pub read_family-family_record-f-requires : goal.read_family-family_record-f-requires
 read_family-family_record-f-requires t c = family_inside _ _ (taken_at t c).head
 
-pub read_family-overflow_add-at : goal.read_family-overflow_add-at
-read_family-overflow_add-at t c = omega (arith, family_inside _ _ (taken_at t (goal.at.read_family-overflow_add-at t c).Else-fault-ne0).head)
-
 pub read_family-inner_limits-requires : goal.read_family-inner_limits-requires
-read_family-inner_limits-requires t c = let T = taken_at t (goal.at.read_family-inner_limits-requires t c).Else-fault-ne0 in rw c.family_record-f.ensures.fact_1 (T.fits.forward, T.room)
+read_family-inner_limits-requires t c = let T = taken_at t (goal.at.read_family-inner_limits-requires t c).In_ok-check_record in rw c.family_record-f.ensures.held (T.fits.forward, T.room)
 
 pub read_family-slice_bounds-read_siblings-count : goal.read_family-slice_bounds-read_siblings-count
-read_family-slice_bounds-read_siblings-count t c = omega (arith, (taken_at t (goal.at.read_family-slice_bounds-read_siblings-count t c).Else-fault-ne0).room)
+read_family-slice_bounds-read_siblings-count t c = omega (arith, (taken_at t (goal.at.read_family-slice_bounds-read_siblings-count t c).In_ok-check_record).room)
 
 pub read_family-slice_bounds-read_siblings-start : goal.read_family-slice_bounds-read_siblings-start
-read_family-slice_bounds-read_siblings-start t c = omega (arith, (taken_at t (goal.at.read_family-slice_bounds-read_siblings-start t c).Else-fault-ne0).room)
+read_family-slice_bounds-read_siblings-start t c = omega (arith, (taken_at t (goal.at.read_family-slice_bounds-read_siblings-start t c).In_ok-check_record).room)
 
-pub read_family-slice_bounds-read_siblings-end : goal.read_family-slice_bounds-read_siblings-end
-read_family-slice_bounds-read_siblings-end t c = omega (arith, (taken_at t (goal.at.read_family-slice_bounds-read_siblings-end t c).Else-fault-ne0).room)
-
-pub read_family-read_siblings-kids-requires : goal.read_family-read_siblings-kids-requires
-read_family-read_siblings-kids-requires t c =
-    let T = taken_at t (goal.at.read_family-read_siblings-kids-requires t c).Else-fault-ne0 in
+pub read_family-read_siblings-requires : goal.read_family-read_siblings-requires
+read_family-read_siblings-requires t c =
+    let T = taken_at t (goal.at.read_family-read_siblings-requires t c).In_ok-check_record in
     let e = c.family_record-f.ensures in
-    let deep : c.args.levels ≤ 1 → c.family_record-f.result.children ≡ 0 = rw e.fact_1 T.deep in
-    let room = room_behind c.args.numbers.now c.args.limits.room 1 (row-long t (goal.at.read_family-read_siblings-kids-requires t c).After-slice_known-1) T.room (room_small t (goal.at.read_family-read_siblings-kids-requires t c).After-slice_known-1) in
-    (omega (arith, e.fact_2, level-left t (goal.at.read_family-read_siblings-kids-requires t c).After-slice_known-1, c.decreases), (family_inside _ _ T.head, (children_deep _ _ e.fact_2 deep, rw c.inner_limits.ensures room)))
+    let deep : c.args.levels ≤ 1 → c.family_record-f.result.children ≡ 0 = rw e.held T.deep in
+    let room = room_behind c.args.numbers.now c.args.limits.room 1 (row-long t (goal.at.read_family-read_siblings-requires t c).After-slice_known-1) T.room (room_small t (goal.at.read_family-read_siblings-requires t c).After-slice_known-1) in
+    (omega (arith, e.children, level-left t (goal.at.read_family-read_siblings-requires t c).After-slice_known-1, c.decreases), (family_inside _ _ T.head, (children_deep _ _ e.children deep, rw c.inner_limits.ensures room)))
 
-pub read_family-returns-then-kids-ne0 : goal.read_family-returns-then-kids-ne0
-read_family-returns-then-kids-ne0 t c =
+pub read_family-returns-in_err-kids : goal.read_family-returns-in_err-kids
+read_family-returns-in_err-kids t c =
     let a = c.args in
-    let r = step_refused _ _ _ _ (kids-step t (goal.at.read_family-returns-then-kids-ne0 t c).After-read_siblings-kids) c.if-kids-ne0.true in
-    let is = children_refused _ _ _ 1 _ (level-left t (goal.at.read_family-returns-then-kids-ne0 t c).After-slice_known-1) (omega arith) _ c.record_fault-fault.ensures c.if-fault-ne0.false r.number r.place r.is in
-    let on = refused_on a.at a.limits.from (forest_from a.sheet.now a.levels a.limits 1 a.at) r.number r.place is a.numbers.now (kids-row t (goal.at.read_family-returns-then-kids-ne0 t c).After-read_siblings-kids) in
-    (r.answer ∙ on.0, on.1)
-
-pub read_family-overflow_sub-span : goal.read_family-overflow_sub-span
-read_family-overflow_sub-span t c = omega (arith, (kids-at t c).place)
+    let p = err_from_is_err_and c.from_residual-in_err-kids.result c.from_residual-in_err-kids.ensures.1 in
+    let e = rw (c.inner_limits.ensures, c.family_record-f.ensures.held) at c.in_err-kids.ensures.0 in
+    let is = children_refused a.sheet.now a.levels a.limits 1 a.at (omega arith) (omega arith) c.in_ok-check_record.ensures _ _ (step_refused _ _ c.in_err-kids.field-0.0 _ e) in
+    rw (p.1, p.2) (refused_on _ _ _ c.in_err-kids.field-0.0 is _ _)
 
 pub read_family-overflow_cast-f : goal.read_family-overflow_cast-f
-read_family-overflow_cast-f t c = let K = kids-at t c in omega (arith, span_most _ _ _ _ K.place (kids-few t c))
+read_family-overflow_cast-f t c = let K = kids-at t (goal.at.read_family-overflow_cast-f t c).In_ok-kids in omega (arith, K.place, K.room)
 
 pub read_family-slice_bounds-put_family-end : goal.read_family-slice_bounds-put_family-end
-read_family-slice_bounds-put_family-end t c = kids-row-room t (goal.at.read_family-slice_bounds-put_family-end t c).After-read_siblings-kids
+read_family-slice_bounds-put_family-end t c = kids-row-room t (goal.at.read_family-slice_bounds-put_family-end t c).After-read_siblings
 
-pub read_family-put_family-requires : goal.read_family-put_family-requires
-read_family-put_family-requires t c = length-take-le 6 (kids-row t (goal.at.read_family-put_family-requires t c).After-read_siblings-kids) (kids-row-room t (goal.at.read_family-put_family-requires t c).After-read_siblings-kids)
+pub read_family-last_byte-requires-clause-some : goal.read_family-last_byte-requires-clause-some
+read_family-last_byte-requires-clause-some t c =
+    rw c.family_record-f.ensures.held (taken_at t (goal.at.read_family-last_byte-requires-clause-some t c).In_ok-check_record).fits.some
 
-pub read_family-last_byte-requires : goal.read_family-last_byte-requires
-read_family-last_byte-requires t c =
-    let T = taken_at t (goal.at.read_family-last_byte-requires t c).Else-fault-ne0 in
-    record { fact_1 = rw c.family_record-f.ensures.fact_1 T.fits.some; fact_2 = rw c.family_record-f.ensures.fact_1 T.fits.forward }
-
-pub read_family-overflow_add-result : goal.read_family-overflow_add-result
-read_family-overflow_add-result t c = omega (arith, c.last_byte.ensures.fact_2)
+pub read_family-last_byte-requires-clause-forward : goal.read_family-last_byte-requires-clause-forward
+read_family-last_byte-requires-clause-forward t c =
+    rw c.family_record-f.ensures.held (taken_at t (goal.at.read_family-last_byte-requires-clause-forward t c).In_ok-check_record).fits.forward
 
 pub read_family-returns : goal.read_family-returns
 read_family-returns t c =
     let a = c.args in
-    let K = kids-at t (goal.at.read_family-returns t c).After-struct_known-2-1 in
-    let f = c.family_record-f.ensures.fact_1 in
-    let fault = c.record_fault-fault.ensures in
-    let last : c.last_byte.result ≡ last_of (family_record a.sheet.now a.at) = rw f at c.last_byte.ensures.fact_1 in
-    let span : (c.read_siblings-kids.result.place - a.at) / 22 ≡ suc (total K.kids) = ap (λ (x : ℕ). (x - a.at) / 22) K.place ∙ families_read a.at (suc (total K.kids)) in
-    let step = family_step _ _ _ _ (level-left t (goal.at.read_family-returns t c).After-slice_known-1) _ fault c.if-fault-ne0.false _ K in
-    let row = family_written _ _ _ _ (level-left t (goal.at.read_family-returns t c).After-slice_known-1) _ fault c.if-fault-ne0.false _ K a.numbers.now c.read_siblings-kids.new.numbers c.put_family.new.six _ _ in (
-      ap (λ (x : ℕ). record { number = 0; place = c.read_siblings-kids.result.place; end = x + 1 }) last ∙ step,
-      row (omega (arith, row-long t (goal.at.read_family-returns t c).After-slice_known-1, (taken_at t (goal.at.read_family-returns t c).Else-fault-ne0).room)) refl (kids-written t (goal.at.read_family-returns t c).After-read_siblings-kids) c.put_family.ensures (ap₂ spanned f span),
+    let K = kids-at t (goal.at.read_family-returns t c).In_ok-kids in
+    let f = c.family_record-f.ensures.held in
+    let last : c.last_byte.result ≡ last_of (family_record a.sheet.now a.at) = rw f at c.last_byte.ensures.last in
+    let span : (c.in_ok-kids.kids.place - a.at) / 22 ≡ suc (total K.kids) = ap (λ (x : ℕ). (x - a.at) / 22) K.place ∙ families_read a.at (suc (total K.kids)) in
+    let step = family_step _ _ _ _ (level-left t (goal.at.read_family-returns t c).After-slice_known-1) c.in_ok-check_record.ensures _ K in
+    let row = family_written _ _ _ _ (level-left t (goal.at.read_family-returns t c).After-slice_known-1) c.in_ok-check_record.ensures _ K a.numbers.now c.read_siblings.new.numbers c.put_family.new.six _ _ in (
+      rw last step,
+      row (omega (arith, row-long t (goal.at.read_family-returns t c).After-slice_known-1, (taken_at t (goal.at.read_family-returns t c).In_ok-check_record).room)) refl (kids-written t (goal.at.read_family-returns t c).After-read_siblings) c.put_family.ensures (ap₂ spanned f span),
     )
 
 -- what the caller gives
@@ -158,74 +141,64 @@ row-long-2 : (t : ℕ) (c : read_siblings-Start t) → length c.args.numbers.now
 row-long-2 t c = omega arith
 
 -- the first family was read
-first_at : (t : ℕ) (c : read_siblings-After-struct_known-2-1 t)
+first_at : (t : ℕ) (c : read_siblings-In_ok-first t)
     → let a = c.args in
-    FirstRead a.sheet.now a.levels a.limits a.count a.at c.read_family-first.result
-first_at t c =
-    first_read _ _ _ _ _ (level-left-2 t (goal.at.read_siblings-overflow_sub-span t c).After-read_family-arg-1) (omega arith) (omega arith) _ c.read_family-first.ensures.0 c.if-first-ne0.false
+    FirstRead a.sheet.now a.levels a.limits a.count a.at c.in_ok-first.first
+first_at t c = first_read _ _ _ _ _ (omega arith) (omega arith) (omega arith) _ c.in_ok-first.ensures.0
 
-first-few : (t : ℕ) (c : read_siblings-After-struct_known-2-1 t) → suc (total (first_at t c).kids) ≤ 256
+first-few : (t : ℕ) (c : read_siblings-In_ok-first t) → suc (total (first_at t c).kids) ≤ 256
 first-few t c =
-    omega (arith, (first_at t c).room, room-small-2 t (goal.at.read_siblings-overflow_sub-span t c).Start)
+    omega (arith, (first_at t c).room)
 
 -- the row with it is as long as it was, and has room for it
-first-row-long : (t : ℕ) (c : read_siblings-After-read_family-first t)
-    → length c.read_family-first.new.numbers ≡ length c.args.numbers.now
+first-row-long : (t : ℕ) (c : read_siblings-After-read_family t)
+    → length c.read_family.new.numbers ≡ length c.args.numbers.now
 first-row-long t c = search rules
 
-first-row-room : (t : ℕ) (c : read_siblings-After-struct_known-2-1 t)
+first-row-room : (t : ℕ) (c : read_siblings-In_ok-first t)
     →
-    6 * ((c.read_family-first.result.place - c.args.at) / 22) ≤ length c.read_family-first.new.numbers
+    6 * ((c.in_ok-first.first.place - c.args.at) / 22) ≤ length c.read_family.new.numbers
 first-row-room t c =
-    omega (arith, span_is _ _ _ _ _ _ (first_at t c), (first_at t c).room, first-row-long t (goal.at.read_siblings-overflow_sub-span t c).After-read_family-first, row-long-2 t (goal.at.read_siblings-overflow_sub-span t c).Start)
+    let long : length c.read_family.new.numbers ≡ length c.args.numbers.now = search rules in
+    omega (arith, span_is _ _ _ _ _ _ (first_at t c), (first_at t c).room, long)
 
 pub read_siblings-returns-then-count-eq0 : goal.read_siblings-returns-then-count-eq0
 read_siblings-returns-then-count-eq0 t c = none_on _ _ _ _ _ _ c.if-count-eq0.true
 
-pub read_siblings-read_family-first-requires : goal.read_siblings-read_family-first-requires
-read_siblings-read_family-first-requires t c = (omega (arith, c.decreases), (omega arith, (level-left-2 t c, (omega arith, omega arith))))
-
-pub read_siblings-returns-then-first-ne0 : goal.read_siblings-returns-then-first-ne0
-read_siblings-returns-then-first-ne0 t c =
+pub read_siblings-returns-in_err-first : goal.read_siblings-returns-in_err-first
+read_siblings-returns-in_err-first t c =
     let a = c.args in
-    let r = step_refused _ _ _ _ c.read_family-first.ensures.0 c.if-first-ne0.true in
-    let on = refused_on a.at a.limits.from (forest_from a.sheet.now a.levels a.limits a.count a.at) r.number r.place
-    (siblings_refused _ _ _ _ a.count r.number r.place (level-left-2 t (goal.at.read_siblings-returns-then-first-ne0 t c).After-read_family-arg-1) (omega arith) r.is) _ _ in
-    (r.answer ∙ on.0, on.1)
-
-pub read_siblings-overflow_sub-span : goal.read_siblings-overflow_sub-span
-read_siblings-overflow_sub-span t c = omega (arith, (first_at t c).place)
+    let p = err_from_is_err_and c.from_residual.result c.from_residual.ensures.1 in
+    let is = siblings_refused _ _ _ _ a.count _ _ (omega arith) (omega arith) (step_refused _ _ c.in_err-first.field-0.0 _ c.in_err-first.ensures.0) in
+    rw (p.1, p.2) (refused_on _ _ _ c.in_err-first.field-0.0 is _ _)
 
 pub read_siblings-overflow_cast-others : goal.read_siblings-overflow_cast-others
-read_siblings-overflow_cast-others t c = let O = first_at t c in omega (arith, span_is _ _ _ _ _ _ O, first-few t c)
+read_siblings-overflow_cast-others t c = let O = first_at t (goal.at.read_siblings-overflow_cast-others t c).In_ok-first in omega (arith, span_is _ _ _ _ _ _ O, O.room)
 
 pub read_siblings-overflow_sub-others : goal.read_siblings-overflow_sub-others
-read_siblings-overflow_sub-others t c = let O = first_at t (goal.at.read_siblings-overflow_sub-others t c).After-struct_known-2-1 in omega (arith, span_is _ _ _ _ _ _ O, O.room)
-
-pub read_siblings-overflow_mul-next : goal.read_siblings-overflow_mul-next
-read_siblings-overflow_mul-next t c = let O = first_at t (goal.at.read_siblings-overflow_mul-next t c).After-struct_known-2-1 in omega (arith, span_is _ _ _ _ _ _ O, first-few t (goal.at.read_siblings-overflow_mul-next t c).After-struct_known-2-1)
+read_siblings-overflow_sub-others t c = let O = first_at t (goal.at.read_siblings-overflow_sub-others t c).In_ok-first in omega (arith, span_is _ _ _ _ _ _ O, O.room)
 
 pub read_siblings-offset_bounds-numbers-next : goal.read_siblings-offset_bounds-numbers-next
-read_siblings-offset_bounds-numbers-next t c = let O = first_at t (goal.at.read_siblings-offset_bounds-numbers-next t c).After-struct_known-2-1 in omega (arith, span_is _ _ _ _ _ _ O, first-few t (goal.at.read_siblings-offset_bounds-numbers-next t c).After-struct_known-2-1)
+read_siblings-offset_bounds-numbers-next t c = let O = first_at t (goal.at.read_siblings-offset_bounds-numbers-next t c).In_ok-first in omega (arith, span_is _ _ _ _ _ _ O, first-few t (goal.at.read_siblings-offset_bounds-numbers-next t c).In_ok-first)
 
 pub read_siblings-slice_bounds-read_siblings-count : goal.read_siblings-slice_bounds-read_siblings-count
-read_siblings-slice_bounds-read_siblings-count t c = first-row-room t (goal.at.read_siblings-slice_bounds-read_siblings-count t c).After-struct_known-2-1
+read_siblings-slice_bounds-read_siblings-count t c = first-row-room t (goal.at.read_siblings-slice_bounds-read_siblings-count t c).In_ok-first
 
 pub read_siblings-slice_bounds-read_siblings-start : goal.read_siblings-slice_bounds-read_siblings-start
-read_siblings-slice_bounds-read_siblings-start t c = first-row-room t (goal.at.read_siblings-slice_bounds-read_siblings-start t c).After-struct_known-2-1
+read_siblings-slice_bounds-read_siblings-start t c = first-row-room t (goal.at.read_siblings-slice_bounds-read_siblings-start t c).In_ok-first
 
 pub read_siblings-read_siblings-requires : goal.read_siblings-read_siblings-requires
 read_siblings-read_siblings-requires t c =
     let a = c.args in
-    let O = first_at t (goal.at.read_siblings-read_siblings-requires t c).After-struct_known-2-1 in
-    let k = (c.read_family-first.result.place - a.at) / 22 in
+    let O = first_at t (goal.at.read_siblings-read_siblings-requires t c).In_ok-first in
+    let k = (c.in_ok-first.first.place - a.at) / 22 in
     let fits : k ≤ a.limits.room = omega (arith, span_is _ _ _ _ _ _ O, O.room) in
-    let room = room_behind c.read_family-first.new.numbers a.limits.room k (first-row-long t (goal.at.read_siblings-read_siblings-requires t c).After-read_family-first ∙ row-long-2 t (goal.at.read_siblings-read_siblings-requires t c).Start) fits (room-small-2 t (goal.at.read_siblings-read_siblings-requires t c).Start) in
+    let room = room_behind c.read_family.new.numbers a.limits.room k (first-row-long t (goal.at.read_siblings-read_siblings-requires t c).After-read_family ∙ row-long-2 t (goal.at.read_siblings-read_siblings-requires t c).Start) fits (room-small-2 t (goal.at.read_siblings-read_siblings-requires t c).Start) in
     (omega (arith, c.decreases), (O.inside, (omega arith, room)))
 
 pub read_siblings-returns : goal.read_siblings-returns
 read_siblings-returns t c =
     let a = c.args in
-    let O = first_at t (goal.at.read_siblings-returns t c).After-struct_known-2-1 in
+    let O = first_at t (goal.at.read_siblings-returns t c).In_ok-first in
     let r = c.read_siblings in
-    (rest_step _ _ _ _ _ _ O _ r.ensures.0, rest_written _ _ _ _ _ _ O a.numbers.now c.read_family-first.new.numbers r.new.numbers _ _ refl refl c.read_family-first.ensures.1 r.ensures.1)
+    (rest_step _ _ _ _ _ _ O _ r.ensures.0, rest_written _ _ _ _ _ _ O a.numbers.now c.read_family.new.numbers r.new.numbers _ _ refl refl c.read_family.ensures.1 r.ensures.1)
