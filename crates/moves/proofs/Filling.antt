@@ -11,8 +11,8 @@ use borrow.Author.Tests.{eqb-true, eq-eqb, ne_eqb}
 use Rattle.counting.proofs.Cases.{same_or_not}
 use Rattle.moves.specs.declared.ahead.Stride.{Stride}
 use Rattle.moves.specs.Strides.{stride_at, Ahead, AheadBy, around, Room}
-use Rattle.moves.specs.Owning.{held_by, Nexts, AllFilled}
-use Rattle.moves.proofs.Facing.{Facing, facing_start, facing_turn, facing_wider, facing_longer, facing_near, facing_ahead}
+use Rattle.moves.specs.Owning.{held_by, Nexts}
+use Rattle.moves.proofs.Facing.{Facing, facing_turn, facing_wider, facing_longer, facing_near, facing_ahead}
 
 -- owner o faces a run from u on and then its place in `nexts`; at first that is one of the next period
 abbrev Owner : (owners : List ℕ) → (period : ℕ) → (nexts₀ : List ℕ) → (u run : ℕ) → (nexts : List ℕ) → (o : ℕ) → Type 0
@@ -49,27 +49,8 @@ by_stride : {p : ℕ → Bool} {x period u : ℕ} {strides : List Stride} (strid
     → stride.hop + 1 ≤ period → stride_at strides u ≡ stride → AheadBy p x period strides u
 by_stride stride A short e = record { ahead = rw e A; short = rw e short }
 
--- ---- past the last place
-pub filling_start : {owners : List ℕ} {period : ℕ} {nexts : List ℕ} {strides : List Stride} → Nexts owners period nexts → Room period strides
-    → let last = get_or owners (period - 1) 0 in Filling owners period nexts period last 0 (get_or nexts last 0 - period) nexts strides
-filling_start {owners} {period} {nexts} N room =
-    let start : (o : ℕ) → o < length nexts → Owner owners period nexts period 0 nexts o =
-    λ o l. facing_start (N.past o l) (N.near o l) (λ y k. N.none o y l k) in
-    let last = N.there (period - 1) (omega (arith, N.some)) in
-    record {
-      faces = record { same = refl; there = last; here = start _ last; apart = omega (arith, N.past _ last); others = λ o l d. start o l };
-      begun = λ d. absurd (d refl);
-      room = room;
-      each = λ o v h k l. absurd (omega arith);
-    }
-
 module _ {owners : List ℕ} {period : ℕ} {nexts₀ : List ℕ} {u last run gap : ℕ} {nexts : List ℕ} {strides : List Stride}
     (F : Filling owners period nexts₀ u last run gap nexts strides) where
-  pub filling_all : u ≤ 0 → AllFilled owners period nexts₀ strides
-  filling_all h = record {
-    each = λ o held. record { held = F.room.held; each = λ v l e. F.each o v held (omega arith) l e };
-  }
-
   abbrev v : ℕ
   v = u - 1
 

@@ -138,6 +138,3 @@ module _ {s : Selection} {row : List ℕ} {window : Window} {n k : ℕ} (C : Car
 
       pub onward_asks : OnwardOk s strides w run
       onward_asks = step_asks T W before run clipped_here (omega (arith, C.near))
-
-      pub further_asks : run ≤ (stride_at strides w.place).hop + 1
-      further_asks = omega (arith, (step_ahead T W before run clipped_here).within)

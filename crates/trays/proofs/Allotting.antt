@@ -1,9 +1,8 @@
 -- The loop of `share_out`: the shares of the elements done stand in the table. Assumes nothing.
-use mathlib.Core.Path.{◌≡◌, refl, sym, ap, ◌∙◌}
+use mathlib.Core.Path.{◌≡◌, refl, ap, ◌∙◌}
 use mathlib.Core.List.{List}
 use mathlib.Core.Logic.{⊎_elim}
-use Prim.Native.Nat.{ℕ, ◌+◌, ◌-◌, ◌*◌, ◌^◌, ◌≤◌, ◌<◌}
-use native.Mathlib.Nat.{add-zero}
+use Prim.Native.Nat.{ℕ, ◌+◌, ◌-◌, ◌^◌, ◌≤◌, ◌<◌}
 use native.Mathlib.Numerals.{add-one}
 use native.Mathlib.Omega.{arith}
 use lib.ListN.{length, take, set, length-set}
@@ -75,9 +74,6 @@ module _ {t : Layout} {size : ℕ} (P : PatternOk t size) {w : Window} (W : Wind
 
   there : e < length L
   there = omega (arith, elements_length t size)
-
-  pub allotting_held : e < length shares
-  allotting_held = omega (arith, A.held, there)
 
   -- what `share_of` answers for s, the selection of element e
   module _ {row : List ℕ} (laid : row ≡ row_of t.family) (s : Selection) (chosen : s ≡ selection_of t size e) (share : Share)

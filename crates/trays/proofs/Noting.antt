@@ -1,16 +1,16 @@
 -- What `moving` asks of what it calls, and what it makes of the answers. Assumes nothing.
-use mathlib.Core.Path.{◌≡◌, refl, sym, ap, ◌∙◌}
+use mathlib.Core.Path.{◌≡◌, sym, ap, ◌∙◌}
 use mathlib.Core.List.{List}
-use Prim.Native.Nat.{ℕ, ◌^◌, ◌≤◌, ◌<◌}
+use Prim.Native.Nat.{ℕ, ◌≤◌, ◌<◌}
 use native.Mathlib.Omega.{arith}
-use lib.ListN.{length, replicate, length-replicate}
+use lib.ListN.{length}
 use lib.Seq.{take_all}
 use Rattle.counting.specs.Elements.{Elements, Partition}
 use Rattle.counting.specs.Trays.{moved, pair_moved}
 use Rattle.families.specs.declared.Layout.{Layout}
 use Rattle.families.specs.Decoded.{row_of}
 use Rattle.maps.specs.declared.Window.{Window}
-use Rattle.maps.specs.Selected.{elements_of, PatternOk}
+use Rattle.maps.specs.Selected.{elements_of}
 use Rattle.moves.specs.declared.ahead.Stride.{Stride}
 use Rattle.moves.specs.Strides.{Filled}
 use Rattle.moves.specs.Owning.{held_by}
@@ -18,7 +18,7 @@ use Rattle.parts.specs.declared.choices.Chosen.{Chosen}
 use Rattle.parts.specs.declared.shares.Share.{Share}
 use Rattle.parts.specs.Tabled.{Ranked}
 use Rattle.parts.specs.Pieces.{bytes_of, SharesOf, Written, every_pair, one_pair}
-use Rattle.trays.specs.Tables.{FitsAll, RoomFor, Tables, CountedOk}
+use Rattle.trays.specs.Tables.{Tables}
 use Rattle.trays.specs.Parts.{cycle_of, Prepared, moved_where, ChosenOk, Starts}
 use Rattle.trays.proofs.Layouts.{elements_length, elements_share, tables_strides, tables_ahead}
 use Rattle.trays.proofs.Choices.{length_where, where_all, where_pair}
@@ -56,32 +56,6 @@ module _ {t : Layout} {size : ℕ} {w : Window} (S : Starts t size w) {owners : 
     ahead = tables_strides t size T S.pattern row laid;
     shared = H;
   }
-
-  -- what `fill_ranks` asks
-  pub counted_ask : {ranks : List ℕ} → size ≤ length ranks → CountedOk owners size (replicate 17 0) ranks
-  counted_ask room = record {
-    held = T.owned.held;
-    room = room;
-    short = omega (arith, S.pattern.most);
-    zeros = refl;
-    there = λ u h. omega (arith, T.owned.most u h, S.pattern.ok.room);
-  }
-
--- ---- room for tables
-pub fits_always : {t : Layout} {size : ℕ} → PatternOk t size → FitsAll t size 65536
-fits_always P = record { ruled = P.ok; held = P.most }
-
-pub room_for : {t : Layout} {size n : ℕ} → 1 ≤ n → n ≤ 2 ^ 16 → FitsAll t size n → (strides : List Stride) → length strides ≡ n
-    → RoomFor t size (replicate n 0) strides
-room_for {n = n} some small F strides held =
-    let long : length (replicate {A = ℕ} n 0) ≡ n = length-replicate {A = ℕ} n 0 in
-    record {
-      zeros = rw long refl;
-      some = omega (arith, long);
-      ruled = rw long F.ruled;
-      held = omega (arith, long, F.held);
-      room = record { held = omega (arith, held, F.held); short = omega (arith, F.held) };
-    }
 
 -- ---- two layouts
 module _ {t1 t2 : Layout} {size1 size2 : ℕ} {w : Window} (S1 : Starts t1 size1 w) (S2 : Starts t2 size2 w) where

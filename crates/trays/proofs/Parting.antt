@@ -3,7 +3,7 @@ use mathlib.Core.Path.{◌≡◌, refl, sym, ap, ◌∙◌}
 use mathlib.Core.Bool.{Bool}
 use mathlib.Core.List.{List, ◌++◌}
 use Rattle.std.specs.Prelude.{Option}
-use Prim.Native.Nat.{ℕ, ◌+◌, ◌-◌, ◌*◌, ◌≤◌, ◌<◌}
+use Prim.Native.Nat.{ℕ, ◌+◌, ◌-◌, ◌≤◌, ◌<◌}
 use native.Mathlib.Nat.{add-sub_cancel_left}
 use native.Mathlib.Numerals.{add-one}
 use native.Mathlib.Omega.{arith}

@@ -1,6 +1,6 @@
 -- Parts of trays: a tray of which some parts are moved, and what the code asks of the layouts, of what is written down of them, and of the trays. Assumes
 -- nothing: these are definitions.
-use Rattle.std.specs.Prelude.{◌≡◌, Bool, ◌&&◌, cond, List, IfSome, ℕ, ◌≤◌, ◌<◌, leb, ltb, length}
+use Rattle.std.specs.Prelude.{◌≡◌, Bool, ◌&&◌, cond, List, IfSome, ℕ, ◌≤◌, ◌<◌, leb, ltb}
 use Rattle.counting.specs.Elements.{Elements, first_of}
 use Rattle.counting.specs.Trays.{tray, in_tray}
 use Rattle.families.specs.declared.Layout.{Layout}

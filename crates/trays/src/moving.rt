@@ -86,7 +86,14 @@ pub fn move_by_tables<const N: usize>(
     let mut ranks = [0u16; N];
     let mut shares = [NO_SHARE; 16];
     put_sources(
-        numbers1, layout1, size1, window, &mut owners, &mut steps, &mut ranks, &mut shares,
+        numbers1,
+        layout1,
+        size1,
+        window,
+        &mut owners,
+        &mut steps,
+        &mut ranks,
+        &mut shares,
     );
     let mut strides = [NO_STRIDE; N];
     let mut parts = [NO_SHARE; 16];

@@ -1,7 +1,7 @@
 -- `fill_parts` meets its contract. The loop's invariant: the chosen parts below j are filled. Assumes nothing.
 use mathlib.Core.Path.{refl}
 use native.Mathlib.Omega.{arith}
-use Rattle.trays.proofs.Parting.{parted_none, parted_long, parted_all, targets_once, parting_held, parting_fits, parting_asks, parting_next}
+use Rattle.trays.proofs.Parting.{parted_none, parted_long, targets_once, parting_held, parting_fits, parting_asks, parting_next}
 use Rattle.trays.proofs.filling.fill_parts.Goals as goal
 
 pub loop-j-init : goal.loop-j-init

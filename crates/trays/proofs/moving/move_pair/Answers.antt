@@ -1,5 +1,5 @@
 -- `move_pair` meets its contract. Assumes nothing.
-use Rattle.trays.proofs.Noting.{pair_chosen, moved_pair}
+use Rattle.trays.proofs.Noting.{moved_pair}
 use Rattle.trays.proofs.moving.move_pair.Goals as goal
 
 pub returns : goal.returns

@@ -1,5 +1,5 @@
 -- `move_tray` meets its contract. Assumes nothing.
-use Rattle.trays.proofs.Noting.{every_chosen, moved_whole}
+use Rattle.trays.proofs.Noting.{moved_whole}
 use Rattle.trays.proofs.moving.move_tray.Goals as goal
 
 pub returns : goal.returns

@@ -1,5 +1,5 @@
 -- `put_targets` meets its contract. Assumes nothing.
-use Rattle.trays.proofs.Noting.{room_for, targets_noted}
+use Rattle.trays.proofs.Noting.{targets_noted}
 use Rattle.trays.proofs.moving.put_targets.Goals as goal
 
 pub returns : goal.returns

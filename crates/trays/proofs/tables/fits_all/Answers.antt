@@ -1,5 +1,4 @@
 -- `fits_all` meets its contract. The loop's invariant: the elements so far fit. Assumes nothing.
-use native.Mathlib.Omega.{arith}
 use Rattle.trays.proofs.Choosing.{chosen_ok}
 use Rattle.trays.proofs.Rooming.{rooming_end, rooming_next}
 use Rattle.trays.proofs.tables.fits_all.Goals as goal
