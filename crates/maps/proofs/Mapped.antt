@@ -1,16 +1,16 @@
 -- What the code asks and answers: a file offset is some whole periods and a place in one, and so is a byte of the subfile. Assumes nothing.
-use mathlib.Core.Path.{◌≡◌, refl, sym, ap, ◌∙◌}
+use mathlib.Core.Path.{◌≡◌, sym, ap, ◌∙◌}
 use mathlib.Core.Bool.{Bool, false}
 use mathlib.Core.List.{List}
 use mathlib.Core.Logic.{⊎_elim}
 use Prim.Native.Nat.{ℕ, ◌+◌, ◌-◌, ◌*◌, ◌/◌, ◌%◌, ◌^◌, ◌≤◌, ◌<◌}
-use native.Mathlib.Nat.{mod-lt, div-le_self, div-add-mod', add-sub_cancel_left, mul-le-mul_left}
+use native.Mathlib.Nat.{mod-lt, mod-eq_of_lt, div-eq_of_lt, div-le_self, div-add-mod', add-sub_cancel_left, mul-le-mul_left}
 use native.Mathlib.Omega.{arith}
 use lib.Arith.{digits_div, digits_mod}
 use borrow.Author.Tests.{le-leb}
 use Rattle.counting.specs.Count.{count_below, nth}
 use Rattle.counting.proofs.Cases.{lt_or_le}
-use Rattle.counting.proofs.Counts.{count_none, count_le, count_mono}
+use Rattle.counting.proofs.Counts.{count_zero, count_none, count_le, count_mono}
 use Rattle.counting.proofs.Nths.{Found, nth_found}
 use Rattle.counting.proofs.Periods.{owns_none, owns_at, rank_owns}
 use Rattle.families.specs.Forest.{has, end_of, size_of}
@@ -40,18 +40,26 @@ module _ {s : Selection} {row : List ℕ} (ok : SelectionOk s row) where
     unfolding belongs
     belongs_by_place b e = rw (le-leb s.from x h) e
 
-    module _ (part : ℕ) (e : part ≡ count_below (has (families_of s row)) ((x - s.from) % s.period)) where
-      pub rank_by_periods : (x - s.from) / s.period * s.size + part ≡ count_below (belongs s row) x
-      unfolding belongs
-      rank_by_periods = rw (ok.size, e) (sym (rank_owns s.from s.period (has (families_of s row)) x period_some h))
+  -- ---- the rank of any x; what lies before the selection is no whole period, and place 0
+  module _ (x : ℕ) (part : ℕ) (e : part ≡ count_below (has (families_of s row)) ((x - s.from) % s.period)) where
+    none_counted : x < s.from → (x - s.from) / s.period * s.size + part ≡ 0
+    none_counted l =
+        let none : x - s.from ≡ 0 = omega arith in
+        let whole : (x - s.from) / s.period ≡ 0 = rw none (div-eq_of_lt period_some) in
+        let place : (x - s.from) % s.period ≡ 0 = rw none (mod-eq_of_lt period_some) in
+        let first : part ≡ 0 = e ∙ ap (count_below (has (families_of s row))) place ∙ count_zero (has (families_of s row)) in
+        rw (whole, first) (omega arith)
 
-      -- the rank is at most x
-      pub rank_small : (x - s.from) / s.period * s.size + part ≤ x
-      rank_small = omega (arith, rank_by_periods, count_le (belongs s row) x)
+    by_periods : s.from ≤ x → (x - s.from) / s.period * s.size + part ≡ count_below (belongs s row) x
+    unfolding belongs
+    by_periods h = rw (ok.size, e) (sym (rank_owns s.from s.period (has (families_of s row)) x period_some h))
 
-    -- .. and so is what whole periods count
-    pub whole_small : x < 2 ^ 64 → (x - s.from) / s.period * s.size < 2 ^ 64
-    whole_small near = omega (arith, rank_small (count_below (has (families_of s row)) ((x - s.from) % s.period)) refl)
+    pub rank_by_periods : (x - s.from) / s.period * s.size + part ≡ count_below (belongs s row) x
+    rank_by_periods = ⊎_elim (λ l. none_counted l ∙ rank_before x l) by_periods (lt_or_le x s.from)
+
+    -- the rank is at most x, and so is what whole periods count
+    pub rank_small : (x - s.from) / s.period * s.size + part ≤ x
+    rank_small = omega (arith, rank_by_periods, count_le (belongs s row) x)
 
   -- ---- byte y of the selection
   module _ (y : ℕ) where

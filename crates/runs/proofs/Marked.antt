@@ -6,7 +6,7 @@ use Prim.Native.Nat.{ℕ, ◌-◌, ◌%◌, ◌≤◌, ◌<◌}
 use native.Mathlib.Nat.{mod-lt, zero-add}
 use native.Mathlib.Omega.{arith}
 use lib.Dec.{leb, eqb}
-use lib.ListN.{length, get_or, replicate, get_or-replicate}
+use lib.ListN.{length, get_or, replicate, length-replicate, get_or-replicate}
 use Rattle.counting.specs.Count.{bit}
 use Rattle.counting.specs.Gather.{tabulated}
 use Rattle.counting.proofs.Counts.{bit_le}
@@ -18,16 +18,20 @@ use Rattle.families.proofs.Marks.{painted_is}
 use Rattle.families.proofs.Loops.{rank_none}
 use Rattle.families.proofs.Turns.{inner_has}
 use Rattle.maps.specs.declared.Selection.{Selection}
-use Rattle.maps.specs.declared.Window.{Window}
+use Rattle.maps.specs.declared.window.Window.{Window}
 use Rattle.maps.specs.Selected.{families_of, belongs, SelectionOk}
 use Rattle.maps.proofs.Mapped.{period_some}
 use Rattle.runs.specs.declared.walks.Side.{Side}
 use Rattle.runs.specs.Listing.{Listed}
-use Rattle.runs.specs.Walking.{FitsTable, SideOk, WindowOk, SideAt, tabled, TableOk, Stands, WalksTo}
+use Rattle.runs.specs.Walking.{FitsTable, SideOk, SideAt, tabled, TableOk, Stands, WalksTo}
 
 -- the marks of families, for n places
 abbrev pub marks_of : Forest → (n : ℕ) → List ℕ
 marks_of F n = tabulated 0 n (λ i. bit (has F i))
+
+-- .. for as many as a table of n zeros has
+pub marks_long : (F : Forest) (n : ℕ) {table : List ℕ} → table ≡ marks_of F (length (replicate {A = ℕ} n 0)) → table ≡ marks_of F n
+marks_long F n is = is ∙ ap (marks_of F) (length-replicate {A = ℕ} n 0)
 
 mark_zero : (b : Bool) → bit b ≡ mark 1 b 0
 mark_zero true = refl
@@ -82,8 +86,8 @@ module _ {s : Selection} {row : List ℕ} (ok : SelectionOk s row) where
       side_stands x t after at = record { ok = table_ok; after = after; place = at.place; rank = rw table_is at.rank }
 
 -- ---- `list_by_tables`: what it asks, and what it has listed
-module _ {s1 s2 : Selection} {row1 row2 : List ℕ} {n1 n2 : ℕ} {w : Window}
-    (A : SideOk s1 row1 n1 w.start.0) (B : SideOk s2 row2 n2 w.start.0) (near : WindowOk w)
+module _ {s1 s2 : Selection} {row1 row2 : List ℕ} {n1 n2 : ℕ} (w : Window)
+    (A : SideOk s1 row1 n1 w.start.0) (B : SideOk s2 row2 n2 w.start.0)
     (table1 table2 : List ℕ) (is1 : table1 ≡ marks_of (families_of s1 row1) n1) (is2 : table2 ≡ marks_of (families_of s2 row2) n2) where
   pub tables_walk : (one two : Side) → SideAt s1 row1 w.start.0 one → SideAt s2 row2 w.start.0 two
       → WalksTo w.end.0 s1 s2 table1 table2 (record { x = w.start; one = one; two = two })
@@ -92,8 +96,8 @@ module _ {s1 s2 : Selection} {row1 row2 : List ℕ} {n1 n2 : ℕ} {w : Window}
       one = side_stands A.ok A.fits table1 is1 w.start.0 one A.after e;
       two = side_stands B.ok B.fits table2 is2 w.start.0 two B.after f;
     };
-    window = near.ordered;
-    near = near.near;
+    window = w.ok.ordered;
+    near = w.ok.near;
   }
 
   pub tables_listed : {old new : List ℕ} {runs : ℕ} → Listed (tabled s1 table1) (tabled s2 table2) w.start.0 w.end.0 old new runs

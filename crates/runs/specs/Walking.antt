@@ -4,7 +4,6 @@ use Rattle.counting.specs.Count.{count_below, stretch}
 use Rattle.counting.specs.Periodic.{owns}
 use Rattle.families.specs.Forest.{WF}
 use Rattle.maps.specs.declared.Selection.{Selection}
-use Rattle.maps.specs.declared.Window.{Window}
 use Rattle.maps.specs.Selected.{families_of, belongs, SelectionOk}
 use Rattle.runs.specs.declared.walks.Side.{Side}
 use Rattle.runs.specs.declared.walks.Walk.{Walk}
@@ -20,11 +19,6 @@ pub record SideOk (s : Selection) (row : List ℕ) (n start : ℕ) : Type 0 wher
   pub ok : SelectionOk s row
   pub fits : FitsTable s row n
   pub after : s.from ≤ start
-
--- .. and of a window
-pub record WindowOk (w : Window) : Type 0 where
-  pub ordered : w.start.0 ≤ w.end.0
-  pub near : w.end.0 ≤ 2 ^ 40
 
 -- t says where x stands in a selection: its place in a period, and its rank
 pub record SideAt (s : Selection) (row : List ℕ) (x : ℕ) (t : Side) : Type 0 where

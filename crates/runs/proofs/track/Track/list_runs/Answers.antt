@@ -1,22 +1,14 @@
 -- `list_runs` meets its contract. The loop's invariant: what is handed on so far and what is left make the whole. Assumes nothing.
-use Prim.Native.Nat.{◌≤◌, ◌<◌}
 use native.Mathlib.Omega.{arith}
 use Rattle.runs.proofs.Handing.{handing_first, ran, further, handing_next, handing_all}
-use Rattle.runs.proofs.listing.list_runs.Goals as goal
-use Rattle.runs.proofs.listing.list_runs.Goals.{After-struct_known-in-loop-at-2-1}
-
--- the run that starts where the loop stands is not empty, and ends in the window
-run_past : (c : After-struct_known-in-loop-at-2-1)
-    →
-    let past = c.pass-past.result.x.0 in (c.loop-at.at.x.0 < past) × (past ≤ c.args.end.0)
-run_past c = ran _ _ _ c.loop-at.invariant.1 c.loop-at-test.true _ c.pass-past.ensures.up_to
+use Rattle.runs.proofs.track.Track.list_runs.Goals as goal
 
 pub pass-at-requires : goal.pass-at-requires
-pass-at-requires c = c.requires
+pass-at-requires c = c.args.self.now.walks
 
 pub loop-at-init : goal.loop-at-init
 loop-at-init c =
-    (c.pass-at.ensures.walks, handing_first _ _ _ _ _ c.requires.window c.pass-at.ensures.up_to c.requires.near _)
+    (c.pass-at.ensures.walks, handing_first _ _ _ _ _ c.args.self.now.walks.window c.pass-at.ensures.up_to c.args.self.now.walks.near _)
 
 pub pass-past-requires : goal.pass-past-requires
 pass-past-requires c =
@@ -24,7 +16,7 @@ pass-past-requires c =
     record { walks = I.0; window = I.1.most; near = I.1.near }
 
 pub overflow_sub-past : goal.overflow_sub-past
-overflow_sub-past c = omega (arith, run_past c)
+overflow_sub-past c = omega (arith, ran _ _ _ c.loop-at.invariant.1 c.loop-at-test.true _ c.pass-past.ensures.up_to)
 
 pub add-runs-requires : goal.add-runs-requires
 add-runs-requires c =
@@ -33,7 +25,9 @@ add-runs-requires c =
 
 pub pass-at-requires-in-loop-at : goal.pass-at-requires-in-loop-at
 pass-at-requires-in-loop-at c =
-    record { walks = c.pass-past.ensures.walks; window = (run_past (goal.at.pass-at-requires-in-loop-at c).After-struct_known-in-loop-at-2-1).1; near = c.loop-at.invariant.1.near }
+    -- the run that starts where the loop stands is not empty, and ends in the window
+    let past = ran _ _ _ c.loop-at.invariant.1 c.loop-at-test.true _ c.pass-past.ensures.up_to in
+    record { walks = c.pass-past.ensures.walks; window = past.1; near = c.loop-at.invariant.1.near }
 
 pub loop-at-smaller : goal.loop-at-smaller
 loop-at-smaller c =
@@ -50,4 +44,4 @@ loop-at-preserved c =
 
 pub returns : goal.returns
 returns c =
-    handing_all _ _ _ _ _ c.requires.window c.pass-at.ensures.up_to c.loop-at.invariant.1 c.loop-at-test.false
+    handing_all _ _ _ _ _ c.args.self.now.walks.window c.pass-at.ensures.up_to c.loop-at.invariant.1 c.loop-at-test.false

@@ -1,6 +1,6 @@
 -- `list_if_held` meets its contract. Assumes nothing.
 use Rattle.runs.proofs.Fillings.{listed_all, listed_none}
-use Rattle.runs.proofs.listing.list_if_held.Goals as goal
+use Rattle.runs.proofs.track.Track.list_if_held.Goals as goal
 
 pub returns-then-runs-list : goal.returns-then-runs-list
 returns-then-runs-list c =

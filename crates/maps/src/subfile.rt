@@ -1,0 +1,91 @@
+// The subfile of a selection: whole periods by division, and the place in one by the families.
+ghost use Rattle.std.specs.Prelude.{◌≡◌, ◌+◌, ◌-◌, ◌*◌, ◌^◌, ◌≤◌, ◌<◌};
+ghost use Rattle.counting.specs.Count.{count_below};
+ghost use Rattle.maps.specs.Selected.{belongs, Byte, SelectionOk};
+ghost use Rattle.maps.specs.Facts.{selection_prop};
+
+use crate::Selection;
+use families::{FileOffset, SubfileOffset};
+
+// A selection with the row that its families stand in, which is lent.
+// A type of its own, since `selection_of` answers for every layout that meets the sheet rules, also for one that no mapping takes.
+#[derive(Clone, Copy)]
+pub struct Subfile<'a> {
+    pub selection: Selection,
+    pub numbers: &'a [u32],
+    pub ghost ok: { SelectionOk selection numbers.now } by { selection_prop selection numbers.now },
+}
+
+impl<'a> Subfile<'a> {
+    // Whether it has file offset x.
+    pub fn has(&self, x: FileOffset) -> bool
+        ensures { result ≡ belongs self.now.selection self.now.numbers.now x.0 }
+    {
+        let s = self.selection;
+        let from = u64::from(s.from);
+        let period = u64::from(s.period);
+        let at = x.0;
+        if at < from {
+            return false;
+        }
+        let past = at - from;
+        families::selects(
+            self.numbers,
+            s.first,
+            s.tops,
+            s.levels,
+            (past % period) as u32,
+        )
+    }
+
+    // How many file offsets below x it has.
+    pub fn rank(&self, x: FileOffset) -> SubfileOffset
+        ensures { result.0 ≡ count_below (belongs self.now.selection self.now.numbers.now) x.0 }
+    {
+        let s = self.selection;
+        let from = u64::from(s.from);
+        let period = u64::from(s.period);
+        let size = u64::from(s.size);
+        // before the selection starts nothing is past it, and the rank comes to 0
+        let past = x.0.saturating_sub(from);
+        let whole = past / period;
+        let part = families::rank(
+            self.numbers,
+            s.first,
+            s.tops,
+            s.levels,
+            (past % period) as u32,
+        );
+        SubfileOffset(whole * size + part)
+    }
+
+    // The file offset of byte y of it.
+    pub fn byte(&self, y: SubfileOffset) -> FileOffset
+        requires { y.0 < 2 ^ 40 }
+        ensures { Byte (belongs self.now.selection self.now.numbers.now) y.0 result.0 }
+    {
+        let s = self.selection;
+        let size = u64::from(s.size);
+        let place = families::inverse(self.numbers, s.first, s.tops, s.levels, y.0 % size);
+        s.offset(y.0 / size, place)
+    }
+
+    // How many bytes it has from one file offset up to but not including another.
+    pub fn count(&self, from: FileOffset, to: FileOffset) -> u64
+        requires { from.0 ≤ to.0 }
+        ensures { let p = belongs self.now.selection self.now.numbers.now in
+            result ≡ count_below p to.0 - count_below p from.0 }
+    {
+        self.rank(to).0 - self.rank(from).0
+    }
+}
+
+impl Selection {
+    // The file offset of a place in a period that has `whole` periods of the selection before it.
+    fn offset(self, whole: u64, place: u32) -> FileOffset
+        requires { whole * self.period < 2 ^ 63 }
+        ensures { result.0 ≡ self.from + (whole * self.period + place) }
+    {
+        FileOffset(u64::from(self.from) + (whole * u64::from(self.period) + u64::from(place)))
+    }
+}
