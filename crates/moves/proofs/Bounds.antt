@@ -10,15 +10,15 @@ use Rattle.counting.specs.Gather.{in_file, gathered, scattered}
 use Rattle.counting.proofs.Counts.{count_in_le}
 use Rattle.counting.proofs.Gathers.{tabulated_ext, tabulated_whole, gathered_none}
 use Rattle.maps.specs.declared.Selection.{Selection}
-use Rattle.maps.specs.declared.Window.{Window}
+use Rattle.maps.specs.declared.window.Window.{Window}
 use Rattle.maps.specs.Selected.{belongs}
-use Rattle.runs.specs.Walking.{SideOk, WindowOk}
+use Rattle.runs.specs.Walking.{SideOk}
 use Rattle.moves.specs.Walks.{Buffers, Carries}
 
 -- ---- a window that is not empty
-pub carries_of : {s : Selection} {row : List ℕ} {window : Window} {n m k : ℕ} → SideOk s row n window.start.0 → WindowOk window
+pub carries_of : {s : Selection} {row : List ℕ} {window : Window} {n m k : ℕ} → SideOk s row n window.start.0
     → Buffers (belongs s row) window m k → window.start.0 < window.end.0 → Carries s row window m k
-carries_of side near buffers some = record { ok = side.ok; after = side.after; some = some; near = near.near; buffers = buffers }
+carries_of side buffers some = record { after = side.after; some = some; buffers = buffers }
 
 -- ---- an empty window
 module _ {p : ℕ → Bool} {window : Window} (file packed : List ℕ) (B : Buffers p window (length file) (length packed))

@@ -11,7 +11,7 @@ use Rattle.counting.specs.Count.{count_in}
 use Rattle.counting.proofs.Cases.{lt_or_le}
 use Rattle.counting.proofs.Counts.{count_all, count_in_split, count_in_le}
 use Rattle.maps.specs.declared.Selection.{Selection}
-use Rattle.maps.specs.declared.Window.{Window}
+use Rattle.maps.specs.declared.window.Window.{Window}
 use Rattle.maps.specs.Selected.{belongs}
 use Rattle.moves.specs.declared.ahead.Stride.{Stride}
 use Rattle.moves.specs.declared.walks.Walk.{Walk}
@@ -122,7 +122,7 @@ module _ {s : Selection} {p : ℕ → Bool} {strides : List Stride} {a n : ℕ} 
 -- ---- what the code asks on its way over a window
 module _ {s : Selection} {row : List ℕ} {window : Window} {n k : ℕ} (C : Carries s row window n k) where
   pub start_near : window.start.0 < 2 ^ 40
-  start_near = omega (arith, C.some, C.near)
+  start_near = omega (arith, C.some, window.ok.near)
 
   module _ {strides : List Stride} {w : Walk} (T : Strides s (belongs s row) strides)
       (W : Stands s (belongs s row) window.start.0 (window.end.0 - window.start.0) w) (inside : w.at < n) where
@@ -137,4 +137,4 @@ module _ {s : Selection} {row : List ℕ} {window : Window} {n k : ℕ} (C : Car
       clipped_here = rw C.buffers.file at clipped
 
       pub onward_asks : OnwardOk s strides w run
-      onward_asks = step_asks T W before run clipped_here (omega (arith, C.near))
+      onward_asks = step_asks T W before run clipped_here (omega (arith, window.ok.near))

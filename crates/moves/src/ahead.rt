@@ -1,12 +1,12 @@
 // A table by place in a period: how long the run of its owner from there on is, and how far the owner's next run after it.
 ghost use Rattle.std.specs.Prelude.{◌≤◌};
-ghost use Rattle.maps.specs.Selected.{belongs, SelectionOk};
+ghost use Rattle.maps.specs.Selected.{belongs};
 ghost use Rattle.runs.specs.Walking.{FitsTable};
 ghost use Rattle.moves.specs.Strides.{Room, Strides};
 ghost use Rattle.moves.specs.Owning.{Nexts, AllFilled};
 
 use families::SubfileOffset;
-use maps::Selection;
+use maps::Subfile;
 
 // What lies ahead of a place: the rest of its owner's run, and the way to the owner's next run. Each is less one, so that 16 bits hold the 65,536 of a
 // period that is selected whole.
@@ -46,18 +46,18 @@ pub fn fill_strides(owners: &[u8], period: usize, nexts: &mut [usize], strides: 
 }
 
 // The table of a selection, by way of a table of N zeros that is marked with one period of it.
-pub fn look_ahead<const N: usize>(numbers: &[u32], s: Selection, strides: &mut [Stride])
+pub fn look_ahead<const N: usize>(subfile: &Subfile, strides: &mut [Stride])
     requires small { N ≤ 65536 }
-    requires ok { SelectionOk s numbers.now }
-    requires fits { FitsTable s numbers.now N }
-    requires room { Room s.period strides.old }
-    ensures { Strides s (belongs s numbers.now) strides.new }
+    requires fits { FitsTable subfile.now.selection subfile.now.numbers.now N }
+    requires room { Room subfile.now.selection.period strides.old }
+    ensures { Strides subfile.now.selection (belongs subfile.now.selection subfile.now.numbers.now) strides.new }
 {
+    let s = subfile.selection;
     let from = u64::from(s.from);
     let period = s.period as usize;
     let mut marks = [0u8; N];
-    runs::fill(numbers, s, &mut marks);
-    let byte = maps::file_inverse(numbers, s, SubfileOffset(0));
+    runs::fill(subfile, &mut marks);
+    let byte = subfile.byte(SubfileOffset(0));
     let first = (byte.0 - from) as usize;
     let mut nexts = [period; 2];
     nexts[1] = period + first;

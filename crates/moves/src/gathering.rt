@@ -2,71 +2,68 @@
 ghost use Rattle.std.specs.Prelude.{◌≡◌, ◌-◌, ◌≤◌, length};
 ghost use Rattle.counting.specs.Gather.{in_file, gathered};
 ghost use Rattle.maps.specs.Selected.{belongs};
-ghost use Rattle.runs.specs.Walking.{FitsTable, SideOk, WindowOk};
+ghost use Rattle.runs.specs.Walking.{FitsTable, SideOk};
 ghost use Rattle.moves.specs.Strides.{Strides};
 ghost use Rattle.moves.specs.Walks.{Buffers, Carries};
 
 use crate::ahead::{NO_STRIDE, Stride};
 use crate::{ahead, walks};
-use maps::{Selection, Window};
+use maps::{Subfile, Window};
 
 // Packs the selected bytes of a window, run by run.
 pub fn gather_runs(
-    numbers: &[u32],
-    s: Selection,
+    subfile: &Subfile,
     window: Window,
     strides: &[Stride],
     file: &[u8],
     packed: &mut [u8],
 )
-    requires carries { Carries s numbers.now window (length file.now) (length packed.old) }
-    requires strides { Strides s (belongs s numbers.now) strides.now }
+    requires carries { Carries subfile.now.selection subfile.now.numbers.now window (length file.now) (length packed.old) }
+    requires strides { Strides subfile.now.selection (belongs subfile.now.selection subfile.now.numbers.now) strides.now }
     ensures { let a = window.start.0 in
-        packed.new ≡ gathered (belongs s numbers.now) a (window.end.0 - a) (in_file a file.now) }
+        packed.new ≡ gathered (belongs subfile.now.selection subfile.now.numbers.now) a (window.end.0 - a) (in_file a file.now) }
 {
     let bytes = file.len();
-    let mut walk = walks::begin(numbers, s, window.start);
+    let mut walk = walks::begin(subfile, window.start);
     // a run says how far the next one is, so that this goes by no range
     while walk.at < bytes {
         let run = walks::run_here(strides, walk, bytes);
         copies::copy_run(file, walk.at, packed, walk.packed, run);
-        walk = walks::onward(strides, s, walk, run);
+        walk = walks::onward(strides, subfile.selection, walk, run);
     }
 }
 
 // Packs the selected bytes of a window by a table of N places, which has one for each of a period.
 pub fn gather_by_table<const N: usize>(
-    numbers: &[u32],
-    s: Selection,
+    subfile: &Subfile,
     window: Window,
     file: &[u8],
     packed: &mut [u8],
 )
     requires small { N ≤ 65536 }
-    requires fits { FitsTable s numbers.now N }
-    requires carries { Carries s numbers.now window (length file.now) (length packed.old) }
+    requires fits { FitsTable subfile.now.selection subfile.now.numbers.now N }
+    requires carries { Carries subfile.now.selection subfile.now.numbers.now window (length file.now) (length packed.old) }
     ensures { let a = window.start.0 in
-        packed.new ≡ gathered (belongs s numbers.now) a (window.end.0 - a) (in_file a file.now) }
+        packed.new ≡ gathered (belongs subfile.now.selection subfile.now.numbers.now) a (window.end.0 - a) (in_file a file.now) }
 {
     let mut strides = [NO_STRIDE; N];
-    ahead::look_ahead::<N>(numbers, s, &mut strides);
-    gather_runs(numbers, s, window, &strides, file, packed);
+    ahead::look_ahead::<N>(subfile, &mut strides);
+    gather_runs(subfile, window, &strides, file, packed);
 }
 
 // Packs the selected bytes of a window. An empty one has none.
-pub fn gather(numbers: &[u32], s: Selection, window: Window, file: &[u8], packed: &mut [u8])
-    requires side { SideOk s numbers.now 65536 window.start.0 }
-    requires window { WindowOk window }
-    requires buffers { Buffers (belongs s numbers.now) window (length file.now) (length packed.old) }
+pub fn gather(subfile: &Subfile, window: Window, file: &[u8], packed: &mut [u8])
+    requires side { SideOk subfile.now.selection subfile.now.numbers.now 65536 window.start.0 }
+    requires buffers { Buffers (belongs subfile.now.selection subfile.now.numbers.now) window (length file.now) (length packed.old) }
     ensures { let a = window.start.0 in
-        packed.new ≡ gathered (belongs s numbers.now) a (window.end.0 - a) (in_file a file.now) }
+        packed.new ≡ gathered (belongs subfile.now.selection subfile.now.numbers.now) a (window.end.0 - a) (in_file a file.now) }
 {
     if window.end.0 <= window.start.0 {
         return;
     }
-    if runs::fits(numbers, s, 2048) {
-        gather_by_table::<2048>(numbers, s, window, file, packed);
+    if runs::fits(subfile, 2048) {
+        gather_by_table::<2048>(subfile, window, file, packed);
     } else {
-        gather_by_table::<65536>(numbers, s, window, file, packed);
+        gather_by_table::<65536>(subfile, window, file, packed);
     }
 }

@@ -1,12 +1,12 @@
 // A walk over the selected runs of a window, from one to the next: no work for what lies between.
 ghost use Rattle.std.specs.Prelude.{◌≡◌, ◌+◌, ◌-◌, ◌%◌, ◌^◌, ◌≤◌, ◌<◌, min, length};
-ghost use Rattle.maps.specs.Selected.{belongs, SelectionOk};
+ghost use Rattle.maps.specs.Selected.{belongs};
 ghost use Rattle.moves.specs.Strides.{stride_at, OnwardOk, onwards, furthers};
 ghost use Rattle.moves.specs.Walks.{Begun};
 
 use crate::ahead::Stride;
 use families::FileOffset;
-use maps::Selection;
+use maps::{Selection, Subfile};
 
 // A selected byte: its place in the file buffer, in its period, and in the packed buffer.
 #[derive(Clone, Copy, Debug, PartialEq, Eq)]
@@ -17,16 +17,15 @@ pub struct Walk {
 }
 
 // At the first selected byte from `start` on.
-pub fn begin(numbers: &[u32], s: Selection, start: FileOffset) -> Walk
-    requires ok { SelectionOk s numbers.now }
-    requires after { s.from ≤ start.0 }
+pub fn begin(subfile: &Subfile, start: FileOffset) -> Walk
+    requires after { subfile.now.selection.from ≤ start.0 }
     requires near { start.0 < 2 ^ 40 }
-    ensures { Begun s (belongs s numbers.now) start.0 result }
+    ensures { Begun subfile.now.selection (belongs subfile.now.selection subfile.now.numbers.now) start.0 result }
 {
+    let s = subfile.selection;
     let from = u64::from(s.from);
     let period = u64::from(s.period);
-    let rank = maps::file_rank(numbers, s, start);
-    let byte = maps::file_inverse(numbers, s, rank);
+    let byte = subfile.byte(subfile.rank(start));
     let past = byte.0 - from;
     Walk {
         at: (byte.0 - start.0) as usize,

@@ -5,7 +5,7 @@ use Rattle.counting.specs.Count.{count_below, count_in}
 use Rattle.counting.specs.Gather.{gathered}
 use Rattle.counting.specs.Elements.{Elements, element}
 use Rattle.counting.specs.Trays.{counts}
-use Rattle.maps.specs.declared.Window.{Window}
+use Rattle.maps.specs.declared.window.Window.{Window}
 use Rattle.moves.specs.declared.ahead.Stride.{Stride}
 use Rattle.moves.specs.Strides.{stride_at, AheadBy, around}
 use Rattle.moves.specs.Owning.{held_by}

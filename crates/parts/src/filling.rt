@@ -9,13 +9,12 @@ ghost use Rattle.parts.specs.Pieces.{bytes_of, elements_by, SourcesOk, takes, re
 use crate::choices;
 use crate::pieces::Sources;
 use families::FileOffset;
-use maps::{Selection, Window};
+use maps::{Subfile, Window};
 use moves::Stride;
 
 // Fills a selection's part of the second tray from the first tray, with what `only` has. After a piece of `only` nothing is taken before its next run.
 pub fn fill_part(
-    numbers: &[u32],
-    s: Selection,
+    subfile: &Subfile,
     window: Window,
     strides: &[Stride],
     sources: &Sources,
@@ -23,14 +22,14 @@ pub fn fill_part(
     tray: &[u8],
     part: &mut [u8],
 )
-    requires carries { Carries s numbers.now window (length tray.now) (length part.old) }
-    requires strides { Strides s (belongs s numbers.now) strides.now }
+    requires carries { Carries subfile.now.selection subfile.now.numbers.now window (length tray.now) (length part.old) }
+    requires strides { Strides subfile.now.selection (belongs subfile.now.selection subfile.now.numbers.now) strides.now }
     requires sources { SourcesOk sources.now window.start.0 (bytes_of window) }
     ensures { let L = elements_by sources.now.cycle sources.now.owners.now in let a = window.start.0 in let n = bytes_of window in
-        part.new ≡ renewed (belongs s numbers.now) a n (takes L only) (in_tray L a n tray.now) part.old }
+        part.new ≡ renewed (belongs subfile.now.selection subfile.now.numbers.now) a n (takes L only) (in_tray L a n tray.now) part.old }
 {
     let bytes = tray.len();
-    let mut walk = moves::begin(numbers, s, window.start);
+    let mut walk = moves::begin(subfile, window.start);
     // a piece says how far the next one is, so that this goes by no range
     while walk.at < bytes {
         let run = moves::run_here(strides, walk, bytes);
@@ -44,6 +43,6 @@ pub fn fill_part(
                 step = sources.beyond(piece, run);
             }
         }
-        walk = moves::further(strides, s, walk, run, step);
+        walk = moves::further(strides, subfile.selection, walk, run, step);
     }
 }

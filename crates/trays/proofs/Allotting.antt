@@ -17,9 +17,8 @@ use Rattle.families.specs.declared.Layout.{Layout}
 use Rattle.families.specs.declared.TrayPlace.{TrayPlace}
 use Rattle.families.specs.Decoded.{row_of}
 use Rattle.maps.specs.declared.Selection.{Selection}
-use Rattle.maps.specs.declared.Window.{Window}
+use Rattle.maps.specs.declared.window.Window.{Window}
 use Rattle.maps.specs.Selected.{belongs, selection_of, elements_of, PatternOk}
-use Rattle.runs.specs.Walking.{WindowOk}
 use Rattle.parts.specs.declared.shares.Share.{Share}
 use Rattle.parts.specs.Pieces.{bytes_of, share_at, ShareOf, SharesOf}
 use Rattle.trays.proofs.Layouts.{elements_length, elements_share, selection_belongs, selection_size}
@@ -61,7 +60,7 @@ module _ {L : Elements} {from period a n : ℕ} {shares₀ shares : List Share} 
       }
 
 -- ---- a round of the loop, for the elements of a layout
-module _ {t : Layout} {size : ℕ} (P : PatternOk t size) {w : Window} (W : WindowOk w) {shares₀ shares : List Share} {e at : ℕ}
+module _ {t : Layout} {size : ℕ} (P : PatternOk t size) (w : Window) {shares₀ shares : List Share} {e at : ℕ}
     (A : Allotted (elements_of t size) t.displacement size w.start.0 (bytes_of w) shares₀ shares e at) (h : e < t.elements) where
   abbrev L : Elements
   L = elements_of t size
@@ -85,13 +84,13 @@ module _ {t : Layout} {size : ℕ} (P : PatternOk t size) {w : Window} (W : Wind
         let selects = selection_belongs t size row laid e h s chosen in
         record {
           start = ap (λ (r : TrayPlace). r.0) answer.0 ∙ A.here;
-          count = rw (← selects) (omega (arith, answer.1.0, count_window p a b W.ordered));
+          count = rw (← selects) (omega (arith, answer.1.0, count_window p a b w.ok.ordered));
           before = rw (← selects) answer.1.1.0;
           size = answer.1.1.1 ∙ selection_size t size row laid e h s chosen P;
         }
 
     pub allotting_fits : t.displacement ≤ a → at + share.count ≤ 2 ^ 40
-    allotting_fits after = omega (arith, allotted_fits A (elements_share t size P a (bytes_of w) after) there own, W.near)
+    allotting_fits after = omega (arith, allotted_fits A (elements_share t size P a (bytes_of w) after) there own, w.ok.near)
 
     pub allotting_next : Allotted L t.displacement size a (bytes_of w) shares₀ (set shares e share) (e + 1) (at + share.count)
     allotting_next = allotted_next A there share own

@@ -1,5 +1,5 @@
 -- What `moving` asks of what it calls, and what it makes of the answers. Assumes nothing.
-use mathlib.Core.Path.{◌≡◌, sym, ap, ◌∙◌}
+use mathlib.Core.Path.{◌≡◌, sym, ap, ◌∙◌, refl}
 use mathlib.Core.List.{List}
 use Prim.Native.Nat.{ℕ, ◌≤◌, ◌<◌}
 use native.Mathlib.Omega.{arith}
@@ -9,7 +9,7 @@ use Rattle.counting.specs.Elements.{Elements, Partition}
 use Rattle.counting.specs.Trays.{moved, pair_moved}
 use Rattle.families.specs.declared.Layout.{Layout}
 use Rattle.families.specs.Decoded.{row_of}
-use Rattle.maps.specs.declared.Window.{Window}
+use Rattle.maps.specs.declared.window.Window.{Window}
 use Rattle.maps.specs.Selected.{elements_of}
 use Rattle.moves.specs.declared.ahead.Stride.{Stride}
 use Rattle.moves.specs.Strides.{Filled}
@@ -39,7 +39,7 @@ module _ {t : Layout} {size : ℕ} {w : Window} (S : Starts t size w) {owners : 
     some = S.pattern.least;
     short = omega (arith, S.pattern.most);
     after = S.after;
-    near = omega (arith, S.window.ordered, S.window.near);
+    near = omega (arith, w.ok.ordered, w.ok.near);
     held = filled.held;
     ahead = tables_ahead t size T;
     ranked = R;
@@ -52,8 +52,7 @@ module _ {t : Layout} {size : ℕ} {w : Window} (S : Starts t size w) {owners : 
     pattern = S.pattern;
     laid = laid;
     after = S.after;
-    window = S.window;
-    ahead = tables_strides t size T S.pattern row laid;
+    ahead = tables_strides t size T S.pattern (row_of t.family) refl;
     shared = H;
   }
 

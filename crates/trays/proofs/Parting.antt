@@ -14,8 +14,9 @@ use Rattle.counting.specs.Elements.{Elements, element, Partition}
 use Rattle.counting.specs.Trays.{counts, in_tray}
 use Rattle.counting.proofs.TrayParts.{part_within}
 use Rattle.families.specs.declared.Layout.{Layout}
+use Rattle.families.specs.Decoded.{row_of}
 use Rattle.maps.specs.declared.Selection.{Selection}
-use Rattle.maps.specs.declared.Window.{Window}
+use Rattle.maps.specs.declared.window.Window.{Window}
 use Rattle.maps.specs.Selected.{belongs, selection_of, elements_of}
 use Rattle.parts.specs.declared.choices.Chosen.{Chosen}
 use Rattle.parts.specs.declared.shares.Share.{Share}
@@ -25,7 +26,6 @@ use Rattle.moves.specs.Walks.{Carries}
 use Rattle.parts.specs.Pieces.{bytes_of, share_at, ShareOf, takes, renewed}
 use Rattle.trays.specs.Parts.{moved_where, Prepared, TraysOk}
 use Rattle.trays.proofs.Layouts.{elements_length, elements_share, selection_belongs, selection_from}
-use Rattle.trays.proofs.Choosing.{chosen_ok}
 use Rattle.trays.proofs.Choices.{length_where, where_none, where_more}
 
 -- ---- the loop
@@ -103,23 +103,21 @@ module _ {t : Layout} {size : ℕ} {w : Window} {row : List ℕ} {strides : List
       pub parting_fits : at + share.count ≤ n
       parting_fits = omega (arith, own.start, own.count, part_within M a n j there targets_once)
 
-      module _ (s : Selection) (chosen : s ≡ selection_of t size j) where
-        selects : belongs s row ≡ element M j
-        selects = selection_belongs t size row T.laid j parting_element s chosen
+      module _ (s : Selection) (chosen : s ≡ selection_of t size j) (lent : List ℕ) (laid : lent ≡ row_of t.family) where
+        selects : belongs s lent ≡ element M j
+        selects = selection_belongs t size lent laid j parting_element s chosen
 
         -- what `fill_part` asks
-        pub parting_asks : {one two : ℕ} → TraysOk w one two → Carries s row w one (length (take k (drop at u))) × Strides s (belongs s row) strides
+        pub parting_asks : {one two : ℕ} → TraysOk w one two → Carries s lent w one (length (take k (drop at u))) × Strides s (belongs s lent) strides
         parting_asks O = (
           record {
-            ok = chosen_ok T.pattern T.laid parting_element chosen;
-            after = omega (arith, selection_from t size row T.laid j parting_element s chosen, T.after);
+            after = omega (arith, selection_from t size lent laid j parting_element s chosen, T.after);
             some = O.some;
-            near = T.window.near;
             buffers = record { file = O.long.first; packed = rw selects (parted_part targets_once P there at k own.start long ∙ long) };
           },
-          rw chosen (T.ahead j parting_element),
+          rw (chosen, laid) (T.ahead j parting_element),
         )
 
-        pub parting_next : (part : List ℕ) → part ≡ renewed (belongs s row) a n (takes L only) (in_tray L a n v) (take k (drop at u))
+        pub parting_next : (part : List ℕ) → part ≡ renewed (belongs s lent) a n (takes L only) (in_tray L a n v) (take k (drop at u))
             → Parted L M a n v u₀ only first last (take at u ++ (part ++ drop k (drop at u))) (j + 1)
-        parting_next part new = parted_next targets_once P there at k own.start long less (belongs s row) selects part new
+        parting_next part new = parted_next targets_once P there at k own.start long less (belongs s lent) selects part new

@@ -5,9 +5,8 @@ use Rattle.counting.specs.Elements.{Elements, first_of}
 use Rattle.counting.specs.Trays.{tray, in_tray}
 use Rattle.families.specs.declared.Layout.{Layout}
 use Rattle.families.specs.Decoded.{row_of}
-use Rattle.maps.specs.declared.Window.{Window}
+use Rattle.maps.specs.declared.window.Window.{Window}
 use Rattle.maps.specs.Selected.{selection_of, belongs, elements_of, PatternOk}
-use Rattle.runs.specs.Walking.{WindowOk}
 use Rattle.moves.specs.declared.ahead.Stride.{Stride}
 use Rattle.moves.specs.Strides.{Strides}
 use Rattle.parts.specs.declared.choices.Chosen.{Chosen}
@@ -37,8 +36,7 @@ pub record Prepared (t : Layout) (size : ℕ) (w : Window) (row : List ℕ) (str
   pub pattern : PatternOk t size
   pub laid : row ≡ row_of t.family
   pub after : t.displacement ≤ w.start.0
-  pub window : WindowOk w
-  pub ahead : (e : ℕ) → e < t.elements → Strides (selection_of t size e) (belongs (selection_of t size e) row) strides
+  pub ahead : (e : ℕ) → e < t.elements → Strides (selection_of t size e) (belongs (selection_of t size e) (row_of t.family)) strides
   pub shared : SharesOf (elements_of t size) t.displacement size w.start.0 (bytes_of w) shares
 
 abbrev pub TargetsOk : Targets → Window → Type 0
@@ -57,7 +55,6 @@ pub record TraysOk (w : Window) (one two : ℕ) : Type 0 where
 pub record Starts (t : Layout) (size : ℕ) (w : Window) : Type 0 where
   pub pattern : PatternOk t size
   pub after : t.displacement ≤ w.start.0
-  pub window : WindowOk w
 
 pub record Laid (t : Layout) (size : ℕ) (w : Window) (row : List ℕ) : Type 0 where
   pub starts : Starts t size w

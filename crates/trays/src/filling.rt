@@ -37,13 +37,12 @@ pub fn fill_parts(
 {
     let only = chosen.only;
     for j in chosen.first..chosen.last {
-        let s = maps::selection_of(*targets.layout, targets.size, j, targets.numbers);
+        let subfile = maps::subfile_of(*targets.layout, targets.size, j, targets.numbers);
         let share = targets.shares[j];
         let from = share.start.0 as usize;
         let to = from + share.count as usize;
         parts::fill_part(
-            targets.numbers,
-            s,
+            &subfile,
             window,
             targets.strides,
             sources,

@@ -17,8 +17,8 @@ pub fn put_nexts(numbers: &[u32], layout: Layout, size: u32, nexts: &mut [usize]
 {
     let from = u64::from(layout.displacement);
     for e in 0..layout.elements {
-        let s = maps::selection_of(layout, size, e, numbers);
-        let byte = maps::file_inverse(numbers, s, SubfileOffset(0));
+        let subfile = maps::subfile_of(layout, size, e, numbers);
+        let byte = subfile.byte(SubfileOffset(0));
         nexts[e + 1] = size as usize + (byte.0 - from) as usize;
     }
 }
@@ -62,8 +62,8 @@ pub fn fits_all(numbers: &[u32], layout: Layout, size: u32, room: u64) -> bool
     ensures { result ≡ true → FitsAll layout size room }
 {
     for e in 0..layout.elements {
-        let s = maps::selection_of(layout, size, e, numbers);
-        if !runs::fits(numbers, s, room) {
+        let subfile = maps::subfile_of(layout, size, e, numbers);
+        if !runs::fits(&subfile, room) {
             return false;
         }
     }

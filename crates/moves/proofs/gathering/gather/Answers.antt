@@ -10,8 +10,8 @@ returns-then-window c = gather_empty c.args.file.now _ c.requires.buffers c.if-w
 pub gather_by_table-requires : goal.gather_by_table-requires
 gather_by_table-requires c =
     let small = side_smaller c.requires.side 2048 _ c.fits.ensures c.if-fits.true in
-    record { small = omega arith; fits = small.fits; carries = carries_of small c.requires.window c.requires.buffers c.if-window.false }
+    record { small = omega arith; fits = small.fits; carries = carries_of small c.requires.buffers c.if-window.false }
 
 pub gather_by_table-requires-else-fits : goal.gather_by_table-requires-else-fits
 gather_by_table-requires-else-fits c =
-    record { small = omega arith; fits = c.requires.side.fits; carries = carries_of c.requires.side c.requires.window c.requires.buffers c.if-window.false }
+    record { small = omega arith; fits = c.requires.side.fits; carries = carries_of c.requires.side c.requires.buffers c.if-window.false }

@@ -7,7 +7,7 @@ use Rattle.moves.proofs.Packing.{packing_start, packing_end, gather_fits, gather
 use Rattle.moves.proofs.gathering.gather_runs.Goals as goal
 
 pub begin-walk-requires : goal.begin-walk-requires
-begin-walk-requires c = record { ok = c.requires.carries.ok; after = c.requires.carries.after; near = start_near c.requires.carries }
+begin-walk-requires c = record { after = c.requires.carries.after; near = start_near c.requires.carries }
 
 pub loop-walk-init : goal.loop-walk-init
 loop-walk-init c = packing_start c.begin-walk.ensures _ _ _ c.requires.carries.buffers.packed

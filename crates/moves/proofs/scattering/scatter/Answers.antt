@@ -10,8 +10,8 @@ returns-then-window c = scatter_empty _ _ c.requires.buffers c.if-window.true
 pub scatter_by_table-requires : goal.scatter_by_table-requires
 scatter_by_table-requires c =
     let small = side_smaller c.requires.side 2048 _ c.fits.ensures c.if-fits.true in
-    record { small = omega arith; fits = small.fits; carries = carries_of small c.requires.window c.requires.buffers c.if-window.false }
+    record { small = omega arith; fits = small.fits; carries = carries_of small c.requires.buffers c.if-window.false }
 
 pub scatter_by_table-requires-else-fits : goal.scatter_by_table-requires-else-fits
 scatter_by_table-requires-else-fits c =
-    record { small = omega arith; fits = c.requires.side.fits; carries = carries_of c.requires.side c.requires.window c.requires.buffers c.if-window.false }
+    record { small = omega arith; fits = c.requires.side.fits; carries = carries_of c.requires.side c.requires.buffers c.if-window.false }

@@ -7,7 +7,7 @@ use Rattle.moves.proofs.Unpacking.{unpacking_start, unpacking_fits, unpacking_ne
 use Rattle.moves.proofs.scattering.scatter_runs.Goals as goal
 
 pub begin-walk-requires : goal.begin-walk-requires
-begin-walk-requires c = record { ok = c.requires.carries.ok; after = c.requires.carries.after; near = start_near c.requires.carries }
+begin-walk-requires c = record { after = c.requires.carries.after; near = start_near c.requires.carries }
 
 pub loop-walk-init : goal.loop-walk-init
 loop-walk-init c =

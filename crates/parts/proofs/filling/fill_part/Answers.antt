@@ -14,7 +14,8 @@ use Rattle.parts.proofs.filling.fill_part.Goals.{After-piece_at-piece, then-take
 here : (c : After-piece_at-piece) →
     let args = c.args in
     let sources = args.sources.now in
-    AtPiece args.s (belongs args.s args.numbers.now) args.strides.now args.window.start.0 (bytes_of args.window)
+    let subfile = args.subfile.now in
+    AtPiece subfile.selection (belongs subfile.selection subfile.numbers.now) args.strides.now args.window.start.0 (bytes_of args.window)
     sources.cycle sources.owners.now sources.strides.now sources.ranks.now sources.shares.now args.only
     args.tray.now args.part.now c.loop-walk.part c.loop-walk.walk c.run_here-run.result c.piece_at-piece.result
 here c =

@@ -15,7 +15,7 @@ bounds-targets-j c =
 pub overflow_add-to : goal.overflow_add-to
 overflow_add-to c =
     let fits = parting_fits c.requires.targets c.loop-j.invariant c.loop-j-test.true c.requires.chosen.most _ refl in
-    omega (arith, fits, c.requires.targets.window.near)
+    omega (arith, fits, c.args.window.ok.near)
 
 pub slice_bounds-fill_part-end : goal.slice_bounds-fill_part-end
 slice_bounds-fill_part-end c =
@@ -24,9 +24,9 @@ slice_bounds-fill_part-end c =
 
 pub fill_part-requires-clause-carries : goal.fill_part-requires-clause-carries
 fill_part-requires-clause-carries c =
-    (parting_asks c.requires.targets c.loop-j.invariant c.loop-j-test.true c.requires.chosen.most _ refl _ c.selection_of-s.ensures c.requires.trays).0
+    (parting_asks c.requires.targets c.loop-j.invariant c.loop-j-test.true c.requires.chosen.most _ refl _ c.subfile_of-subfile.ensures.selection _ c.subfile_of-subfile.ensures.row c.requires.trays).0
 
 pub loop-j-preserved : goal.loop-j-preserved
 loop-j-preserved c =
-    parting_next c.requires.targets c.loop-j.invariant c.loop-j-test.true c.requires.chosen.most _ refl _ c.selection_of-s.ensures
+    parting_next c.requires.targets c.loop-j.invariant c.loop-j-test.true c.requires.chosen.most _ refl _ c.subfile_of-subfile.ensures.selection _ c.subfile_of-subfile.ensures.row
     c.fill_part.new.part c.fill_part.ensures

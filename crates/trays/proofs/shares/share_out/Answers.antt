@@ -1,7 +1,6 @@
 -- `share_out` meets its contract. The loop's invariant: the shares of the elements below e stand in the table. Assumes nothing.
 use native.Mathlib.Omega.{arith}
 use Rattle.trays.proofs.Layouts.{elements_length}
-use Rattle.trays.proofs.Choosing.{chosen_ok}
 use Rattle.trays.proofs.Allotting.{allotted_none, allotted_all, allotting_fits, allotting_next}
 use Rattle.trays.proofs.shares.share_out.Goals as goal
 
@@ -10,19 +9,16 @@ loop-e-init c =
     let count = elements_length c.args.layout c.args.size in
     allotted_none _ _ _ _ _ _ (omega (arith, count, c.requires.room))
 
-pub share_of-share-requires-clause-ok : goal.share_of-share-requires-clause-ok
-share_of-share-requires-clause-ok c = chosen_ok c.requires.pattern c.requires.row c.loop-e-test.true c.selection_of-s.ensures
-
 pub overflow_add-at : goal.overflow_add-at
 overflow_add-at c =
     let fits =
-    allotting_fits c.requires.pattern c.requires.window c.loop-e.invariant c.loop-e-test.true c.requires.row _ c.selection_of-s.ensures
+    allotting_fits c.requires.pattern c.args.window c.loop-e.invariant c.loop-e-test.true c.subfile_of-subfile.ensures.row _ c.subfile_of-subfile.ensures.selection
     _ (let share = c.share_of-share.ensures in (share.start, (share.count, (share.before, share.size)))) c.requires.after in
     omega (arith, fits)
 
 pub loop-e-preserved : goal.loop-e-preserved
 loop-e-preserved c =
-    allotting_next c.requires.pattern c.requires.window c.loop-e.invariant c.loop-e-test.true c.requires.row _ c.selection_of-s.ensures
+    allotting_next c.requires.pattern c.args.window c.loop-e.invariant c.loop-e-test.true c.subfile_of-subfile.ensures.row _ c.subfile_of-subfile.ensures.selection
     _ (let share = c.share_of-share.ensures in (share.start, (share.count, (share.before, share.size))))
 
 pub returns : goal.returns

@@ -1,26 +1,22 @@
 -- `put_nexts` meets its contract. The loop's invariant: the first places of the elements so far are written down. Assumes nothing.
 use native.Mathlib.Omega.{arith}
-use Rattle.trays.proofs.Choosing.{chosen_ok}
 use Rattle.trays.proofs.Firsts.{FirstAt, first_at, firsts_small, firsts_next}
 use Rattle.trays.proofs.tables.put_nexts.Goals as goal
-use Rattle.trays.proofs.tables.put_nexts.Goals.{After-file_inverse-byte}
+use Rattle.trays.proofs.tables.put_nexts.Goals.{After-byte-byte}
 
 -- the element's first byte
-byte : (c : After-file_inverse-byte) → let s = c.args in
-    FirstAt s.layout s.size c.loop-e.e c.file_inverse-byte.result.0
+byte : (c : After-byte-byte) → let s = c.args in
+    FirstAt s.layout s.size c.loop-e.e c.byte-byte.result.0
 byte c =
-    first_at _ c.requires.pattern c.requires.row c.selection_of-s.ensures c.file_inverse-byte.ensures
-
-pub file_inverse-byte-requires-clause-fact_1 : goal.file_inverse-byte-requires-clause-fact_1
-file_inverse-byte-requires-clause-fact_1 c = chosen_ok c.requires.pattern c.requires.row c.loop-e-test.true c.selection_of-s.ensures
+    first_at _ c.requires.pattern c.subfile_of-subfile.ensures.row c.subfile_of-subfile.ensures.selection c.byte-byte.ensures
 
 pub overflow_sub-nexts : goal.overflow_sub-nexts
-overflow_sub-nexts c = rw c.from-from.ensures (byte (goal.at.overflow_sub-nexts c).After-file_inverse-byte).after
+overflow_sub-nexts c = rw c.from-from.ensures (byte (goal.at.overflow_sub-nexts c).After-byte-byte).after
 
 pub overflow_add-nexts : goal.overflow_add-nexts
 overflow_add-nexts c =
-    omega (arith, c.from-from.ensures, firsts_small c.loop-e.invariant c.requires.pattern c.loop-e-test.true (byte (goal.at.overflow_add-nexts c).After-file_inverse-byte))
+    omega (arith, c.from-from.ensures, firsts_small c.loop-e.invariant c.requires.pattern c.loop-e-test.true (byte (goal.at.overflow_add-nexts c).After-byte-byte))
 
 pub loop-e-preserved : goal.loop-e-preserved
 loop-e-preserved c =
-    rw c.from-from.ensures (firsts_next c.loop-e.invariant c.requires.pattern c.loop-e-test.true (byte (goal.at.loop-e-preserved c).After-file_inverse-byte))
+    rw c.from-from.ensures (firsts_next c.loop-e.invariant c.requires.pattern c.loop-e-test.true (byte (goal.at.loop-e-preserved c).After-byte-byte))
