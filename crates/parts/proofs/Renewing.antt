@@ -161,7 +161,10 @@ module _ {s : Selection} {q : ℕ → Bool} {strides : List Stride} {a n : ℕ} 
   P : PieceOf L x run piece
   P = piece_is A.sources A.inside some A.is
 
-  -- what `source_of` and `copy_run` ask
+  -- what `takes`, `source_of` and `copy_run` ask
+  pub owner_asked : 1 ≤ piece.owner
+  owner_asked = P.number
+
   pub source_asked : SourceOk ranks shares piece
   source_asked = source_asks A.sources A.inside some A.is
 

@@ -1,5 +1,5 @@
 // Choices: what is moved, all or what one pair of elements shares.
-ghost use Rattle.std.specs.Prelude.{◌≡◌, ◌<◌};
+ghost use Rattle.std.specs.Prelude.{◌≡◌, ◌≤◌, ◌<◌};
 ghost use Rattle.parts.specs.Pieces.{every_pair, one_pair, taken_from};
 
 // What is moved: to the elements from `first` up to but not including `last` of the second layout, what element `only` of the first has, or all.
@@ -35,10 +35,11 @@ pub fn one_pair(i: usize, j: usize) -> Chosen
 
 // Whether what an owner has is moved: element e has the number e + 1.
 pub fn takes(only: Option<usize>, owner: usize) -> bool
+    requires { 1 ≤ owner }
     ensures { result ≡ taken_from only owner }
 {
     match only {
         None => true,
-        Some(element) => owner != 0 && element == owner - 1,
+        Some(element) => element == owner - 1,
     }
 }

@@ -6,7 +6,7 @@ use Rattle.maps.specs.Selected.{belongs}
 use Rattle.parts.specs.Pieces.{bytes_of}
 use Rattle.moves.proofs.Striding.{clipped_here, onward_asks}
 use Rattle.parts.proofs.Piecing.{step_just}
-use Rattle.parts.proofs.Renewing.{renewing_start, renewing_end, AtPiece, source_asked, copy_asked, far_least, far_over, piece_forward, piece_copied, piece_passed}
+use Rattle.parts.proofs.Renewing.{renewing_start, renewing_end, AtPiece, owner_asked, source_asked, copy_asked, far_least, far_over, piece_forward, piece_copied, piece_passed}
 use Rattle.parts.proofs.filling.fill_part.Goals as goal
 use Rattle.parts.proofs.filling.fill_part.Goals.{After-piece_at-piece, then-taken+then-is_some, then-taken+else-is_some, else-taken}
 
@@ -33,6 +33,9 @@ here c =
 pub loop-walk-init : goal.loop-walk-init
 loop-walk-init c =
     renewing_start c.begin-walk.ensures _ _ _ _ c.requires.carries.buffers.packed
+
+pub takes-taken-requires : goal.takes-taken-requires
+takes-taken-requires c = owner_asked (here (goal.at.takes-taken-requires c).After-piece_at-piece)
 
 pub source_of-source-requires : goal.source_of-source-requires
 source_of-source-requires c = source_asked (here (goal.at.source_of-source-requires c).After-piece_at-piece)
