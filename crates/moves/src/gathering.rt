@@ -3,33 +3,26 @@ ghost use Rattle.std.specs.Prelude.{◌≡◌, ◌-◌, ◌≤◌, length};
 ghost use Rattle.counting.specs.Gather.{in_file, gathered};
 ghost use Rattle.maps.specs.Selected.{belongs};
 ghost use Rattle.runs.specs.Walking.{FitsTable, SideOk};
-ghost use Rattle.moves.specs.Strides.{Strides};
 ghost use Rattle.moves.specs.Walks.{Buffers, Carries};
 
-use crate::ahead::{NO_STRIDE, Stride};
+use crate::ahead::NO_STRIDE;
+use crate::track::Track;
 use crate::{ahead, walks};
 use maps::{Subfile, Window};
 
 // Packs the selected bytes of a window, run by run.
-pub fn gather_runs(
-    subfile: &Subfile,
-    window: Window,
-    strides: &[Stride],
-    file: &[u8],
-    packed: &mut [u8],
-)
-    requires carries { Carries subfile.now.selection subfile.now.numbers.now window (length file.now) (length packed.old) }
-    requires strides { Strides subfile.now.selection (belongs subfile.now.selection subfile.now.numbers.now) strides.now }
+pub fn gather_runs(track: &Track, window: Window, file: &[u8], packed: &mut [u8])
+    requires { Carries track.now.subfile.selection track.now.subfile.numbers.now window (length file.now) (length packed.old) }
     ensures { let a = window.start.0 in
-        packed.new ≡ gathered (belongs subfile.now.selection subfile.now.numbers.now) a (window.end.0 - a) (in_file a file.now) }
+        packed.new ≡ gathered (belongs track.now.subfile.selection track.now.subfile.numbers.now) a (window.end.0 - a) (in_file a file.now) }
 {
     let bytes = file.len();
-    let mut walk = walks::begin(subfile, window.start);
+    let mut walk = walks::begin(&track.subfile, window.start);
     // a run says how far the next one is, so that this goes by no range
     while walk.at < bytes {
-        let run = walks::run_here(strides, walk, bytes);
+        let run = walks::run_here(track.strides, walk, bytes);
         copies::copy_run(file, walk.at, packed, walk.packed, run);
-        walk = walks::onward(strides, subfile.selection, walk, run);
+        walk = walks::onward(track.strides, track.subfile.selection, walk, run);
     }
 }
 
@@ -48,7 +41,11 @@ pub fn gather_by_table<const N: usize>(
 {
     let mut strides = [NO_STRIDE; N];
     ahead::look_ahead::<N>(subfile, &mut strides);
-    gather_runs(subfile, window, &strides, file, packed);
+    let track = Track {
+        subfile: *subfile,
+        strides: &strides,
+    };
+    gather_runs(&track, window, file, packed);
 }
 
 // Packs the selected bytes of a window. An empty one has none.

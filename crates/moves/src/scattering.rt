@@ -3,33 +3,26 @@ ghost use Rattle.std.specs.Prelude.{◌≡◌, ◌-◌, ◌≤◌, length};
 ghost use Rattle.counting.specs.Gather.{scattered};
 ghost use Rattle.maps.specs.Selected.{belongs};
 ghost use Rattle.runs.specs.Walking.{FitsTable, SideOk};
-ghost use Rattle.moves.specs.Strides.{Strides};
 ghost use Rattle.moves.specs.Walks.{Buffers, Carries};
 
-use crate::ahead::{NO_STRIDE, Stride};
+use crate::ahead::NO_STRIDE;
+use crate::track::Track;
 use crate::{ahead, walks};
 use maps::{Subfile, Window};
 
 // Puts packed bytes back to a window, run by run: the walk of `gather_runs`. One function for both would say no less, since each writes the other's buffer.
-pub fn scatter_runs(
-    subfile: &Subfile,
-    window: Window,
-    strides: &[Stride],
-    packed: &[u8],
-    file: &mut [u8],
-)
-    requires carries { Carries subfile.now.selection subfile.now.numbers.now window (length file.old) (length packed.now) }
-    requires strides { Strides subfile.now.selection (belongs subfile.now.selection subfile.now.numbers.now) strides.now }
+pub fn scatter_runs(track: &Track, window: Window, packed: &[u8], file: &mut [u8])
+    requires { Carries track.now.subfile.selection track.now.subfile.numbers.now window (length file.old) (length packed.now) }
     ensures { let a = window.start.0 in
-        file.new ≡ scattered (belongs subfile.now.selection subfile.now.numbers.now) a (window.end.0 - a) packed.now file.old }
+        file.new ≡ scattered (belongs track.now.subfile.selection track.now.subfile.numbers.now) a (window.end.0 - a) packed.now file.old }
 {
     let bytes = file.len();
-    let mut walk = walks::begin(subfile, window.start);
+    let mut walk = walks::begin(&track.subfile, window.start);
     // a run says how far the next one is, so that this goes by no range
     while walk.at < bytes {
-        let run = walks::run_here(strides, walk, bytes);
+        let run = walks::run_here(track.strides, walk, bytes);
         copies::copy_run(packed, walk.packed, file, walk.at, run);
-        walk = walks::onward(strides, subfile.selection, walk, run);
+        walk = walks::onward(track.strides, track.subfile.selection, walk, run);
     }
 }
 
@@ -48,7 +41,11 @@ pub fn scatter_by_table<const N: usize>(
 {
     let mut strides = [NO_STRIDE; N];
     ahead::look_ahead::<N>(subfile, &mut strides);
-    scatter_runs(subfile, window, &strides, packed, file);
+    let track = Track {
+        subfile: *subfile,
+        strides: &strides,
+    };
+    scatter_runs(&track, window, packed, file);
 }
 
 // Puts packed bytes back to a window. An empty one has none.

@@ -2,37 +2,34 @@
 ghost use Rattle.std.specs.Prelude.{◌≡◌, length};
 ghost use Rattle.counting.specs.Trays.{in_tray};
 ghost use Rattle.maps.specs.Selected.{belongs};
-ghost use Rattle.moves.specs.Strides.{Strides};
 ghost use Rattle.moves.specs.Walks.{Carries};
 ghost use Rattle.parts.specs.Pieces.{bytes_of, elements_by, SourcesOk, takes, renewed};
 
 use crate::choices;
 use crate::pieces::Sources;
 use families::FileOffset;
-use maps::{Subfile, Window};
-use moves::Stride;
+use maps::Window;
+use moves::Track;
 
-// Fills a selection's part of the second tray from the first tray, with what `only` has. After a piece of `only` nothing is taken before its next run.
+// Fills a subfile's part of the second tray from the first tray, with what `only` has. After a piece of `only` nothing is taken before its next run.
 pub fn fill_part(
-    subfile: &Subfile,
+    track: &Track,
     window: Window,
-    strides: &[Stride],
     sources: &Sources,
     only: Option<usize>,
     tray: &[u8],
     part: &mut [u8],
 )
-    requires carries { Carries subfile.now.selection subfile.now.numbers.now window (length tray.now) (length part.old) }
-    requires strides { Strides subfile.now.selection (belongs subfile.now.selection subfile.now.numbers.now) strides.now }
+    requires carries { Carries track.now.subfile.selection track.now.subfile.numbers.now window (length tray.now) (length part.old) }
     requires sources { SourcesOk sources.now window.start.0 (bytes_of window) }
     ensures { let L = elements_by sources.now.cycle sources.now.owners.now in let a = window.start.0 in let n = bytes_of window in
-        part.new ≡ renewed (belongs subfile.now.selection subfile.now.numbers.now) a n (takes L only) (in_tray L a n tray.now) part.old }
+        part.new ≡ renewed (belongs track.now.subfile.selection track.now.subfile.numbers.now) a n (takes L only) (in_tray L a n tray.now) part.old }
 {
     let bytes = tray.len();
-    let mut walk = moves::begin(subfile, window.start);
+    let mut walk = moves::begin(&track.subfile, window.start);
     // a piece says how far the next one is, so that this goes by no range
     while walk.at < bytes {
-        let run = moves::run_here(strides, walk, bytes);
+        let run = moves::run_here(track.strides, walk, bytes);
         let piece = sources.piece_at(FileOffset(window.start.0 + walk.at as u64), run);
         let taken = choices::takes(only, piece.owner);
         let mut step = piece.len;
@@ -43,6 +40,6 @@ pub fn fill_part(
                 step = sources.beyond(piece, run);
             }
         }
-        walk = moves::further(strides, subfile.selection, walk, run, step);
+        walk = moves::further(track.strides, track.subfile.selection, walk, run, step);
     }
 }

@@ -6,7 +6,7 @@ ghost use Rattle.trays.specs.Parts.{moved_where, ChosenOk, TargetsOk, TraysOk};
 
 use families::Layout;
 use maps::Window;
-use moves::Stride;
+use moves::{Stride, Track};
 use parts::{Chosen, Share, Sources};
 
 // What is written down of the second layout: by place in its pattern what lies ahead there, and by element its share of a window.
@@ -38,17 +38,13 @@ pub fn fill_parts(
     let only = chosen.only;
     for j in chosen.first..chosen.last {
         let subfile = maps::subfile_of(*targets.layout, targets.size, j, targets.numbers);
+        let track = Track {
+            subfile,
+            strides: targets.strides,
+        };
         let share = targets.shares[j];
         let from = share.start.0 as usize;
         let to = from + share.count as usize;
-        parts::fill_part(
-            &subfile,
-            window,
-            targets.strides,
-            sources,
-            only,
-            tray1,
-            &mut tray2[from..to],
-        );
+        parts::fill_part(&track, window, sources, only, tray1, &mut tray2[from..to]);
     }
 }

@@ -14,19 +14,20 @@ use Rattle.parts.proofs.filling.fill_part.Goals.{After-piece_at-piece, then-take
 here : (c : After-piece_at-piece) →
     let args = c.args in
     let sources = args.sources.now in
-    let subfile = args.subfile.now in
-    AtPiece subfile.selection (belongs subfile.selection subfile.numbers.now) args.strides.now args.window.start.0 (bytes_of args.window)
+    let track = args.track.now in
+    let subfile = track.subfile in
+    AtPiece subfile.selection (belongs subfile.selection subfile.numbers.now) track.strides.now args.window.start.0 (bytes_of args.window)
     sources.cycle sources.owners.now sources.strides.now sources.ranks.now sources.shares.now args.only
     args.tray.now args.part.now c.loop-walk.part c.loop-walk.walk c.run_here-run.result c.piece_at-piece.result
 here c =
     let stands = c.loop-walk.invariant.packing.stands in
     record {
-      ahead = c.requires.strides;
+      ahead = c.args.track.now.ahead;
       sources = c.requires.sources;
       long = c.requires.carries.buffers.file;
       renewing = c.loop-walk.invariant;
       inside = omega (arith, c.loop-walk-test.true, c.requires.carries.buffers.file);
-      clipped = clipped_here c.requires.carries c.requires.strides stands c.loop-walk-test.true _ c.run_here-run.ensures;
+      clipped = clipped_here c.requires.carries c.args.track.now.ahead stands c.loop-walk-test.true _ c.run_here-run.ensures;
       is = c.piece_at-piece.ensures;
     }
 
@@ -47,7 +48,7 @@ copy_run-requires c =
 
 pub further-walk-requires-clause-onward : goal.further-walk-requires-clause-onward
 further-walk-requires-clause-onward c =
-    onward_asks c.requires.carries c.requires.strides c.loop-walk.invariant.packing.stands c.loop-walk-test.true _ c.run_here-run.ensures
+    onward_asks c.requires.carries c.args.track.now.ahead c.loop-walk.invariant.packing.stands c.loop-walk-test.true _ c.run_here-run.ensures
 
 pub loop-walk-smaller : goal.loop-walk-smaller
 loop-walk-smaller c =
