@@ -87,7 +87,7 @@ fn put_reply(call: Call, frame: &Frame, into: &mut [u8], text: &mut [u8]) -> usi
     ensures lent { IsPrefixLen result text.new }
     ensures some { 0 < result }
 {
-    into.copy_from_slice(frame.destination());
+    into.copy_from_slice(frame.destination);
     let answer = make(call, frame, into);
     line::put_line(answer, into, text)
 }
@@ -103,6 +103,6 @@ pub fn answer(bytes: &[u8], space: &mut [u8], text: &mut [u8]) -> Option<usize>
 {
     let frame = Frame::parse(bytes)?;
     let call = frame.call()?;
-    let size = frame.destination().len();
+    let size = frame.destination.len();
     Some(put_reply(call, &frame, &mut space[..size], text))
 }

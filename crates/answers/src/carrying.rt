@@ -8,11 +8,11 @@ pub fn gather(frame: &Frame, into: &mut [u8]) -> Answer
     ensures { Tells (gather_outcome frame.now.bytes.now into.old) result into.new }
 {
     said::of_outcome(astrephon::gather(
-        frame.sheet1(),
+        frame.sheet1,
         frame.i(),
         frame.a(),
         frame.b(),
-        frame.source(),
+        frame.source,
         into,
     ))
 }
@@ -21,11 +21,11 @@ pub fn scatter(frame: &Frame, into: &mut [u8]) -> Answer
     ensures { Tells (scatter_outcome frame.now.bytes.now into.old) result into.new }
 {
     said::of_outcome(astrephon::scatter(
-        frame.sheet1(),
+        frame.sheet1,
         frame.i(),
         frame.a(),
         frame.b(),
-        frame.source(),
+        frame.source,
         into,
     ))
 }
@@ -34,11 +34,11 @@ pub fn move_tray(frame: &Frame, into: &mut [u8]) -> Answer
     ensures { Tells (move_outcome frame.now.bytes.now into.old) result into.new }
 {
     said::of_outcome(astrephon::move_tray(
-        frame.sheet1(),
-        frame.sheet2(),
+        frame.sheet1,
+        frame.sheet2,
         frame.a(),
         frame.b(),
-        frame.source(),
+        frame.source,
         into,
     ))
 }
@@ -47,13 +47,13 @@ pub fn move_pair(frame: &Frame, into: &mut [u8]) -> Answer
     ensures { Tells (pair_move_outcome frame.now.bytes.now into.old) result into.new }
 {
     said::of_outcome(astrephon::move_pair(
-        frame.sheet1(),
-        frame.sheet2(),
+        frame.sheet1,
+        frame.sheet2,
         frame.i(),
         frame.j(),
         frame.a(),
         frame.b(),
-        frame.source(),
+        frame.source,
         into,
     ))
 }

@@ -1,10 +1,9 @@
 // The parts of a frame: a call, four numbers, four blobs. What is said here is of the bytes that follow a frame's first number.
-ghost use Rattle.std.specs.Prelude.{◌≡◌, suc, ◌+◌, ◌≤◌, ◌^◌, min, eqb, length, MatchOption};
+ghost use Rattle.std.specs.Prelude.{◌≡◌, ◌≤◌, ◌<◌, ◌^◌, length, MatchOption};
 ghost use Rattle.sheets.specs.Bytes.{le32};
 ghost use Rattle.answers.specs.Numbers.{le64};
 ghost use Rattle.answers.specs.Calls.{number_of, NamesNone};
-ghost use Rattle.answers.specs.Frames.{call_of, blob_end, Whole, end2, end3, i_of, j_of, a_of, b_of, from_of, into_of};
-ghost use Rattle.answers.specs.Frames.{blob, sheet1, sheet2};
+ghost use Rattle.answers.specs.Frames.{call_of, blob, blob_end, end1, Whole, i_of, j_of, a_of, b_of, from_of, into_of};
 
 use crate::calls::Call;
 use crate::numbers;
@@ -31,65 +30,63 @@ pub fn number(head: &[u8; 4]) -> usize
     sheets::le32_at(head, 0) as usize
 }
 
-// Where the blob ends whose length stands at `at`; one past the frame's end where it does not fit.
-#[tactic(auto, unfolding(crate::specs::Frames::blob_end))]
-fn blob_end(bytes: &[u8], at: usize) -> usize
+// The blob whose length stands at `at`, and where it ends, if it fits.
+#[tactic(auto, unfolding(crate::specs::Frames::blob, crate::specs::Frames::blob_end))]
+fn blob(bytes: &[u8], at: usize) -> Option<(&[u8], usize)>
     requires { at ≤ 2 ^ 63 }
-    ensures { result ≡ min (blob_end bytes.now at) (suc (length bytes.now)) }
-{
-    let size = bytes.len();
-    if size < at + 4 {
-        return size + 1;
-    }
-    let end = at + 4 + sheets::le32_at(bytes, at) as usize;
-    if size < end { size + 1 } else { end }
-}
-
-// Where the second blob ends, and the third begins.
-#[tactic(auto, using(crate::proofs::Ends::cut_next))]
-fn second_end(bytes: &[u8]) -> usize
-    ensures { result ≡ min (end2 bytes.now) (suc (length bytes.now)) }
-{
-    blob_end(bytes, blob_end(bytes, BLOBS))
-}
-
-// Where the third blob ends, and the last begins.
-#[tactic(auto, using(crate::proofs::Ends::cut_next))]
-fn third_end(bytes: &[u8]) -> usize
-    ensures { result ≡ min (end3 bytes.now) (suc (length bytes.now)) }
-{
-    blob_end(bytes, second_end(bytes))
-}
-
-// The blob whose length stands at `at`.
-#[tactic(auto, using(crate::proofs::Ends::blob_grows, crate::proofs::Ends::blob_place, crate::proofs::Ends::blob_lent))]
-fn blob(bytes: &[u8], at: usize) -> &[u8]
-    requires { blob_end bytes.now at ≤ length bytes.now }
-    ensures { result.now ≡ blob bytes.now at }
+    ensures { MatchOption
+        result
+        (length bytes.now < blob_end bytes.now at)
+        (λ part. (part.0.now ≡ blob bytes.now at) × (part.1 ≡ blob_end bytes.now at) × (part.1 ≤ length bytes.now)) }
 {
     let start = at + 4;
-    let end = blob_end(bytes, at);
-    &bytes[start..end]
+    if bytes.len() < start {
+        return None;
+    }
+    let end = start + sheets::le32_at(bytes, at) as usize;
+    if bytes.len() < end {
+        return None;
+    }
+    Some((&bytes[start..end], end))
 }
 
-// The bytes of a whole frame: the four blobs fill it, and it is neither cut nor too long.
+// A whole frame: its bytes, and the four blobs that fill them. They are neither cut nor too many.
 #[derive(Clone, Copy)]
 pub struct Frame<'a> {
     bytes: &'a [u8],
+    pub sheet1: &'a [u8],
+    pub sheet2: &'a [u8],
+    // The source buffer.
+    pub source: &'a [u8],
+    // The destination buffer, as it was before the call.
+    pub destination: &'a [u8],
     ghost whole: { Whole bytes.now },
+    ghost first: { sheet1.now ≡ blob bytes.now 33 },
+    ghost second: { sheet2.now ≡ blob bytes.now (end1 bytes.now) },
+    ghost third: { source.now ≡ from_of bytes.now },
+    ghost fourth: { destination.now ≡ into_of bytes.now },
 }
 
 impl<'a> Frame<'a> {
     // The frame that these bytes are, if they are one.
-    #[tactic(auto, using(crate::proofs::Ends::whole_when, crate::proofs::Ends::whole_only))]
+    #[tactic(auto, using(crate::proofs::Ends::first_fits, crate::proofs::Ends::second_fits, crate::proofs::Ends::third_fits, crate::proofs::Ends::fourth_fits))]
     pub fn parse(bytes: &'a [u8]) -> Option<Frame<'a>>
         ensures { MatchOption result (¬ Whole bytes.now) (λ frame. frame.bytes.now ≡ bytes.now) }
     {
-        if blob_end(bytes, third_end(bytes)) == bytes.len() {
-            Some(Frame { bytes })
-        } else {
-            None
+        let (sheet1, end1) = blob(bytes, BLOBS)?;
+        let (sheet2, end2) = blob(bytes, end1)?;
+        let (source, end3) = blob(bytes, end2)?;
+        let (destination, end4) = blob(bytes, end3)?;
+        if end4 < bytes.len() {
+            return None;
         }
+        Some(Frame {
+            bytes,
+            sheet1,
+            sheet2,
+            source,
+            destination,
+        })
     }
 
     // The call that its number names, if it names one.
@@ -140,35 +137,5 @@ impl<'a> Frame<'a> {
         ensures { result.0 ≡ b_of self.now.bytes.now }
     {
         FileOffset(self.number_at(B))
-    }
-
-    #[tactic(auto, using(crate::proofs::Ends::first_fits))]
-    pub fn sheet1(&self) -> &[u8]
-        ensures { result.now ≡ sheet1 self.now.bytes.now }
-    {
-        blob(self.bytes, BLOBS)
-    }
-
-    #[tactic(auto, using(crate::proofs::Ends::second_fits, crate::proofs::Ends::begin_fits, crate::proofs::Ends::begin_blob))]
-    pub fn sheet2(&self) -> &[u8]
-        ensures { result.now ≡ sheet2 self.now.bytes.now }
-    {
-        blob(self.bytes, blob_end(self.bytes, BLOBS))
-    }
-
-    // The source buffer.
-    #[tactic(auto, using(crate::proofs::Ends::third_fits, crate::proofs::Ends::begin_fits, crate::proofs::Ends::begin_blob))]
-    pub fn source(&self) -> &[u8]
-        ensures { result.now ≡ from_of self.now.bytes.now }
-    {
-        blob(self.bytes, second_end(self.bytes))
-    }
-
-    // The destination buffer, as it was before the call.
-    #[tactic(auto, using(crate::proofs::Ends::fourth_fits, crate::proofs::Ends::begin_fits, crate::proofs::Ends::begin_blob))]
-    pub fn destination(&self) -> &[u8]
-        ensures { result.now ≡ into_of self.now.bytes.now }
-    {
-        blob(self.bytes, third_end(self.bytes))
     }
 }

@@ -56,7 +56,7 @@ fn put_buffer(bytes: &[u8], text: &mut [u8], at: usize) -> usize
     requires { at + 2 * length bytes.now + 1 ≤ length text.old }
     ensures { Put (buffer bytes.now) (2 * length bytes.now + 1) at result text.old text.new }
 {
-    if bytes.len() == 0 {
+    if bytes.is_empty() {
         text[at] = b'-';
         return at + 1;
     }

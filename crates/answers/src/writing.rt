@@ -14,8 +14,8 @@ fn list_runs(frame: &Frame, into: &mut [u8], list: &mut [u64]) -> Answer
 {
     numbers::take_slots(into, list);
     let listed = astrephon::shared_runs(
-        frame.sheet1(),
-        frame.sheet2(),
+        frame.sheet1,
+        frame.sheet2,
         frame.i(),
         frame.j(),
         frame.a(),
@@ -38,5 +38,5 @@ pub fn shared_runs(frame: &Frame, into: &mut [u8]) -> Answer
 pub fn list_sheet(frame: &Frame, into: &mut [u8]) -> Answer
     ensures { Tells (listing_outcome frame.now.bytes.now into.old) result into.new }
 {
-    said::of_outcome(astrephon::list_sheet(frame.sheet1(), into))
+    said::of_outcome(astrephon::list_sheet(frame.sheet1, into))
 }

@@ -6,4 +6,4 @@ use Rattle.answers.proofs.calls.put_reply.Goals as goal
 pub returns-clause-line : goal.returns-clause-line
 returns-clause-line c =
     c.put_line.ensures.line
-    ∙ reply_told _ c.args.frame.now.whole _ c.requires.called (c.copy_from_slice.ensures.after ∙ c.destination.ensures) c.make-answer.ensures
+    ∙ reply_told _ c.args.frame.now.whole _ c.requires.called (c.copy_from_slice.ensures.after ∙ c.args.frame.now.fourth) c.make-answer.ensures
