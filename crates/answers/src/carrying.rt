@@ -7,14 +7,7 @@ use said::Answer;
 pub fn gather(frame: &Frame, into: &mut [u8]) -> Answer
     ensures { Tells (gather_outcome frame.now.bytes.now into.old) result into.new }
 {
-    said::of_outcome(astrephon::gather(
-        frame.sheet1,
-        frame.i(),
-        frame.a(),
-        frame.b(),
-        frame.source,
-        into,
-    ))
+    said::of_outcome(astrephon::gather(frame.sheet1, frame.i, frame.a, frame.b, frame.source, into))
 }
 
 pub fn scatter(frame: &Frame, into: &mut [u8]) -> Answer
@@ -22,9 +15,9 @@ pub fn scatter(frame: &Frame, into: &mut [u8]) -> Answer
 {
     said::of_outcome(astrephon::scatter(
         frame.sheet1,
-        frame.i(),
-        frame.a(),
-        frame.b(),
+        frame.i,
+        frame.a,
+        frame.b,
         frame.source,
         into,
     ))
@@ -36,8 +29,8 @@ pub fn move_tray(frame: &Frame, into: &mut [u8]) -> Answer
     said::of_outcome(astrephon::move_tray(
         frame.sheet1,
         frame.sheet2,
-        frame.a(),
-        frame.b(),
+        frame.a,
+        frame.b,
         frame.source,
         into,
     ))
@@ -49,10 +42,10 @@ pub fn move_pair(frame: &Frame, into: &mut [u8]) -> Answer
     said::of_outcome(astrephon::move_pair(
         frame.sheet1,
         frame.sheet2,
-        frame.i(),
-        frame.j(),
-        frame.a(),
-        frame.b(),
+        frame.i,
+        frame.j,
+        frame.a,
+        frame.b,
         frame.source,
         into,
     ))
