@@ -45,8 +45,12 @@ pub fn read_elements(
     done: Progress,
     families: &mut [Family],
 ) -> Result<Progress, Refused>
-    requires { (done.place ≤ length sheet.now) × ((done.elements + count ≤ 16) × ((done.families ≤ 256) × (length families.old ≡ 256 - done.families))) }
-    ensures { (Progressed (elements_from sheet.now (256 - done.families) count done.place) done result) × (WrittenAll (elements_from sheet.now (256 - done.families) count done.place) families.old families.new) }
+    requires inside { done.place ≤ length sheet.now }
+    requires elements { done.elements + count ≤ 16 }
+    requires families { done.families ≤ 256 }
+    requires long { length families.old ≡ 256 - done.families }
+    ensures progress { Progressed (elements_from sheet.now (256 - done.families) count done.place) done result }
+    ensures written { WrittenAll (elements_from sheet.now (256 - done.families) count done.place) families.old families.new }
 {
     if count == 0 {
         return Ok(done);
