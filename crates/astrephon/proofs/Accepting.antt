@@ -1,34 +1,31 @@
 -- WHERE A CALL MOVES BYTES: accepted sheets, an element that is there, a window of them, and buffers of the lengths asked for. Assumes nothing.
 use mathlib.Core.Path.{◌≡◌, refl, sym, ◌∙◌}
-use mathlib.Core.List.{List, [], ◌∷◌}
+use mathlib.Core.List.{List, []}
 use Prim.Native.Nat.{ℕ, ◌-◌, ◌≤◌, ◌<◌}
 use native.Mathlib.Omega.{arith}
 use lib.ListN.{length}
-use borrow.Author.Tests.{le-leb}
+use Rattle.std.specs.Prelude.{Ok}
 use Rattle.counting.specs.Count.{count_in}
 use Rattle.counting.specs.Gather.{in_file, gathered, scattered}
 use Rattle.counting.specs.Trays.{moved, pair_moved}
 use Rattle.counting.proofs.Counts.{count_window}
 use Rattle.counting.proofs.Gathers.{length_gathered}
-use Rattle.sheets.specs.declared.Reading.{Reading}
+use Rattle.sheets.specs.Reading.{Reading}
 use Rattle.sheets.specs.Refusals.{first_fault}
 use Rattle.sheets.specs.Sheet.{read_sheet}
 use Rattle.openings.specs.Said.{done, Outcome, writing}
-use Rattle.openings.specs.Refusals.{ELEMENT, call_refusal}
-use Rattle.openings.specs.Offsets.{LIMIT, offsets_of, element_test, pair_tests, both_from}
+use Rattle.openings.specs.Refusals.{ELEMENT}
+use Rattle.openings.specs.Offsets.{offsets_of, pair_tests, both_from}
 use Rattle.openings.specs.Buffers.{packed_length, unless_buffers, tray_tests}
-use Rattle.openings.proofs.Orders.{row_there, sheet_passed, fault_refused, fault_passed, same_value, left_held, left_written, writes}
+use Rattle.openings.proofs.Orders.{sheet_passed, fault_refused, fault_passed, same_value, left_held, left_written, writes}
 use Rattle.openings.proofs.Opens.{WindowFine, BuffersFine, window_through, buffers_on, buffers_through}
 use Rattle.openings.proofs.PairOpens.{sheets_on, elements_on}
-use Rattle.openings.proofs.Faults.{range_fine, buffer_fine, trays_buffers}
-use Rattle.astrephon.specs.Says.{carried_says}
+use Rattle.openings.proofs.Faults.{element_none, trays_fine}
+use Rattle.astrephon.specs.Says.{says, no_values}
 use Rattle.astrephon.specs.Carries.{packed_length_of, gather_of, scatter_of, scatter_call}
 use Rattle.astrephon.specs.Moves.{elements_read, move_of, pair_move_of, move_call, pair_move_call}
-use Rattle.astrephon.specs.declared.Measured.TheVariants.{Bytes}
-use Rattle.astrephon.specs.declared.Carried.{Carried}
-use Rattle.astrephon.specs.declared.Carried.TheVariants.{Done}
 use Rattle.astrephon.specs.Sequences.{Takes, Forward}
-use Rattle.astrephon.proofs.Contracts.{Made, PackedLen, Gather, Scatter, MoveTray, MovePair}
+use Rattle.astrephon.proofs.Contracts.{Carried, Done, Made, PackedLen, Gather, Scatter, MoveTray, MovePair}
 use Rattle.astrephon.proofs.Saying.{carried_same}
 
 -- ---- GATHER AND SCATTER check the same, so this is of both: where sheet, element, window and buffers are fine the call is done and leaves what was to be
@@ -37,7 +34,7 @@ module _ (r : Reading) (e a b file packed : ℕ) (held written : List ℕ) where
   abbrev carry : Outcome
   carry = writing (unless_buffers r e a b file packed (done [])) held written
 
-  carry_made : (answer : Carried) (later : List ℕ) → BuffersFine r e a b file packed → (carried_says answer ≡ carry.says) × (later ≡ carry.later) → (answer ≡ Done) × (later ≡ written)
+  carry_made : (answer : Carried) (later : List ℕ) → BuffersFine r e a b file packed → (says no_values answer ≡ carry.says) × (later ≡ carry.later) → (answer ≡ Done) × (later ≡ written)
   carry_made answer later B p =
       let on = buffers_on r e a b file packed B (done []) in
       (carried_same answer Done (p.0 ∙ sym on), p.1 ∙ left_written held written on)
@@ -92,7 +89,7 @@ module _ {a b : ℕ} (W : Forward a b) where
     unfolding scatter_of
     scatter_absent none packed held =
         left_held held _
-        (fault_refused _ (element_test (read_sheet xs).layout.elements e ∷ []) ELEMENT (row_there ELEMENT _ (le-leb _ _ none)) (call_refusal ELEMENT 0) refl (λ z. absurd (omega arith))
+        (element_none (read_sheet xs).layout.elements e none _
         ∙ sheet_passed _ 1 (read_sheet xs) X.fine)
 
   -- ---- moves
@@ -106,13 +103,11 @@ module _ {a b : ℕ} (W : Forward a b) where
     module _ (one : length t ≡ b - a) (two : length held ≡ b - a) where
       no_tray_fault : 0 ≡ first_fault (tray_tests (both_from r1 r2) a b (length t) (length held))
       no_tray_fault =
-          trays_buffers (both_from r1 r2) a b (length t) (length held) 0 0
-          (range_fine LIMIT _ a b W.forward (omega (arith, X.after, Y.after)) W.near) refl
-          (buffer_fine (length t) (b - a) (length held) (b - a) one two)
+          trays_fine (both_from r1 r2) a b (length t) (length held) W.forward (omega (arith, X.after, Y.after)) W.near one two
 
       pub move_does : let outcome = move_call xs ys a b t held in (done [] ≡ outcome.says) × (moved (elements_read r1) (elements_read r2) a (b - a) t ≡ outcome.later)
       unfolding move_of
-      move_does = writes held _ (fault_passed _ _ 0 no_tray_fault refl ∙ sheets_on _ r1 r2 X.fine Y.fine) refl
+      move_does = writes held _ (fault_passed _ _ 0 no_tray_fault refl ∙ sheets_on r1 r2 X.fine Y.fine _) refl
 
       pub pair_does : (i j : ℕ) → i < r1.layout.elements → j < r2.layout.elements
           → let outcome = pair_move_call xs ys i j a b t held in (done [] ≡ outcome.says) × (pair_moved (elements_read r1) (elements_read r2) a (b - a) t i j held ≡ outcome.later)
@@ -131,10 +126,10 @@ module _ {a b : ℕ} (W : Forward a b) where
     pub pair_absent : (i j : ℕ) → ELEMENT ≡ first_fault (pair_tests r1.layout.elements i r2.layout.elements j) → (pair_move_call xs ys i j a b t held).later ≡ held
     unfolding pair_move_of
     pair_absent i j none =
-        left_held held _ (fault_refused _ _ ELEMENT none (call_refusal ELEMENT 0) refl (λ z. absurd (omega arith)) ∙ sheets_on _ r1 r2 X.fine Y.fine)
+        left_held held _ (fault_refused _ _ ELEMENT none (λ z. absurd (omega arith)) ∙ sheets_on r1 r2 X.fine Y.fine _)
 
 -- ---- PACKED LENGTH IS WHAT IS ASKED FOR: where it is answered, gather and scatter do their work with a packed buffer of that length, and a file buffer of the window's
-module _ (m : Made 1) (xs : List ℕ) (e a b n : ℕ) (p : PackedLen m xs e a b (Bytes n)) where
+module _ (m : Made 1) (xs : List ℕ) (e a b n : ℕ) (p : PackedLen m xs e a b (Ok n)) where
   measured : WindowFine (read_sheet xs) e a b × (packed_length (read_sheet xs) e a b ≡ n)
   unfolding packed_length_of
   measured = let W = window_through (read_sheet xs) e a b (sym p) in (W.0, same_value W.1)

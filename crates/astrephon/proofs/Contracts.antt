@@ -7,16 +7,12 @@ use base.Fml.{GName}
 use contract.Lifetimes.{Lfts}
 use denote.Bor.{Bor}
 use denote.MutBor.{MutBor}
+use Rattle.std.specs.Prelude.{Result, Ok}
 use Rattle.families.specs.declared.FileOffset.{FileOffset}
 use Rattle.families.specs.declared.SubfileOffset.{SubfileOffset}
-use Rattle.astrephon.specs.declared.Checked.{Checked}
-use Rattle.astrephon.specs.declared.Mapped.{Mapped}
-use Rattle.astrephon.specs.declared.Located.{Located}
-use Rattle.astrephon.specs.declared.Spanned.{Spanned}
-use Rattle.astrephon.specs.declared.Listed.{Listed}
-use Rattle.astrephon.specs.declared.Measured.{Measured}
-use Rattle.astrephon.specs.declared.Carried.{Carried}
-use Rattle.astrephon.specs.declared.Written.{Written}
+use Rattle.openings.specs.declared.Refusal.{Refusal}
+use Rattle.astrephon.specs.declared.Facts.{Facts}
+use Rattle.astrephon.specs.declared.Interval.{Interval}
 use Rattle.astrephon.proofs.checking.check.Reads as check
 use Rattle.astrephon.proofs.mapping.exact.Reads as exact
 use Rattle.astrephon.proofs.mapping.next.Reads as next
@@ -29,6 +25,16 @@ use Rattle.astrephon.proofs.carrying.scatter.Reads as scatter
 use Rattle.astrephon.proofs.moving.move_tray.Reads as move-tray
 use Rattle.astrephon.proofs.moving.move_pair.Reads as move-pair
 use Rattle.astrephon.proofs.listing.list_sheet.Reads as list-sheet
+
+-- what a call answers; and a call that moves bytes, where it did its work
+abbrev pub Answer : Type 0 → Type 0
+Answer A = Result A Refusal
+
+abbrev pub Carried : Type 0
+Carried = Answer (Unit {0})
+
+abbrev pub Done : Carried
+Done = Ok tt
 
 -- how a call was made: its n lifetimes, and where each thing lies that it was lent
 pub record Made (n : ℕ) : Type 0 where
@@ -51,26 +57,26 @@ abbrev in_subfile : ℕ → SubfileOffset
 in_subfile y = record { 0 = y }
 
 -- ---- calls that write nothing: what they were given, and the answer
-abbrev pub Check : Made 1 → (xs : List ℕ) → Checked → Type 0
+abbrev pub Check : Made 1 → (xs : List ℕ) → Answer Facts → Type 0
 Check m xs answer = check.Post m.lifetimes (shown m 0 xs, tt) answer (shown m 0 xs, tt)
 
-abbrev pub Exact : Made 1 → (xs : List ℕ) → (e x : ℕ) → Mapped → Type 0
+abbrev pub Exact : Made 1 → (xs : List ℕ) → (e x : ℕ) → Answer SubfileOffset → Type 0
 Exact m xs e x answer = exact.Post m.lifetimes (shown m 0 xs, (e, (in_file x, tt))) answer (shown m 0 xs, (e, (in_file x, tt)))
 
-abbrev pub Next : Made 1 → (xs : List ℕ) → (e x : ℕ) → Mapped → Type 0
+abbrev pub Next : Made 1 → (xs : List ℕ) → (e x : ℕ) → Answer SubfileOffset → Type 0
 Next m xs e x answer = next.Post m.lifetimes (shown m 0 xs, (e, (in_file x, tt))) answer (shown m 0 xs, (e, (in_file x, tt)))
 
-abbrev pub Inverse : Made 1 → (xs : List ℕ) → (e y : ℕ) → Located → Type 0
+abbrev pub Inverse : Made 1 → (xs : List ℕ) → (e y : ℕ) → Answer FileOffset → Type 0
 Inverse m xs e y answer = inverse.Post m.lifetimes (shown m 0 xs, (e, (in_subfile y, tt))) answer (shown m 0 xs, (e, (in_subfile y, tt)))
 
-abbrev pub Span : Made 1 → (xs : List ℕ) → (e a z : ℕ) → Spanned → Type 0
+abbrev pub Span : Made 1 → (xs : List ℕ) → (e a z : ℕ) → Answer Interval → Type 0
 Span m xs e a z answer = span.Post m.lifetimes (shown m 0 xs, (e, (in_file a, (in_file z, tt)))) answer (shown m 0 xs, (e, (in_file a, (in_file z, tt))))
 
-abbrev pub PackedLen : Made 1 → (xs : List ℕ) → (e a b : ℕ) → Measured → Type 0
+abbrev pub PackedLen : Made 1 → (xs : List ℕ) → (e a b : ℕ) → Answer ℕ → Type 0
 PackedLen m xs e a b answer = packed-len.Post m.lifetimes (shown m 0 xs, (e, (in_file a, (in_file b, tt)))) answer (shown m 0 xs, (e, (in_file a, (in_file b, tt))))
 
 -- ---- calls that write: also what the buffer held, and what it holds afterwards
-abbrev pub SharedRuns : Made 3 → (xs ys : List ℕ) → (i j a b : ℕ) → (held : List ℕ) → Listed → (later : List ℕ) → Type 0
+abbrev pub SharedRuns : Made 3 → (xs ys : List ℕ) → (i j a b : ℕ) → (held : List ℕ) → Answer ℕ → (later : List ℕ) → Type 0
 SharedRuns m xs ys i j a b held answer later =
     shared-runs.Post m.lifetimes
     (shown m 0 xs, (shown m 1 ys, (i, (j, (in_file a, (in_file b, (lent m 2 held, tt)))))))
@@ -105,5 +111,5 @@ MovePair m xs ys i j a b t held answer later =
     answer
     (shown m 0 xs, (shown m 1 ys, (i, (j, (in_file a, (in_file b, (shown m 2 t, (lent m 3 later, tt))))))))
 
-abbrev pub ListSheet : Made 2 → (xs held : List ℕ) → Written → (later : List ℕ) → Type 0
+abbrev pub ListSheet : Made 2 → (xs held : List ℕ) → Answer ℕ → (later : List ℕ) → Type 0
 ListSheet m xs held answer later = list-sheet.Post m.lifetimes (shown m 0 xs, (lent m 1 held, tt)) answer (shown m 0 xs, (lent m 1 later, tt))

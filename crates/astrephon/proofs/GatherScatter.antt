@@ -6,13 +6,11 @@ use Prim.Native.Nat.{ℕ, ◌-◌}
 use lib.ListN.{length}
 use Rattle.counting.specs.Gather.{in_file, gathered, scattered}
 use Rattle.counting.proofs.Scatters.{length_scattered, scatter_gather, gather_scatter, scatter_scatter, scatter_comm}
-use Rattle.sheets.specs.declared.Reading.{Reading}
+use Rattle.sheets.specs.Reading.{Reading}
 use Rattle.sheets.specs.Sheet.{read_sheet}
 use Rattle.openings.specs.Offsets.{offsets_of}
-use Rattle.astrephon.specs.declared.Carried.{Carried}
-use Rattle.astrephon.specs.declared.Carried.TheVariants.{Done}
 use Rattle.astrephon.specs.Sequences.{Takes}
-use Rattle.astrephon.proofs.Contracts.{Made, Gather, Scatter}
+use Rattle.astrephon.proofs.Contracts.{Carried, Done, Made, Gather, Scatter}
 use Rattle.astrephon.proofs.Accepting.{gather_left, scatter_left, scatter_made, window_count, gathered_long}
 use Rattle.astrephon.proofs.Trays.{offsets_apart}
 

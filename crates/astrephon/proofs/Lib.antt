@@ -1,5 +1,4 @@
 pub mod Asks
-pub mod Checks
 pub mod Mappings
 pub mod Listings
 pub mod Transfers

@@ -2,7 +2,7 @@
 use mathlib.Core.Path.{◌≡◌, refl, sym, ap, ◌∙◌}
 use mathlib.Core.Bool.{Bool, true, false, not, true≢false}
 use mathlib.Core.Logic.{⊎_elim}
-use mathlib.Core.List.{List, [], ◌∷◌}
+use mathlib.Core.List.{[], ◌∷◌}
 use Prim.Native.Nat.{ℕ, ◌≤◌, ◌<◌}
 use native.Mathlib.Omega.{arith}
 use borrow.Author.Tests.{le-leb, lt-leb}
@@ -13,40 +13,18 @@ use Rattle.counting.proofs.Nths.{nth_none}
 use Rattle.counting.proofs.Periods.{owns_none}
 use Rattle.families.specs.Forest.{has}
 use Rattle.families.specs.Decoded.{tree_of}
-use Rattle.sheets.specs.declared.Reading.{Reading}
-use Rattle.sheets.specs.Refusals.{first_fault}
-use Rattle.maps.specs.declared.Selection.{Selection}
+use Rattle.sheets.specs.Reading.{Reading}
 use Rattle.maps.specs.Selected.{belongs, Byte}
 use Rattle.maps.proofs.BytesOf.{inverse_near, inverse_far}
-use Rattle.openings.specs.declared.Refusal.{Refusal}
+use Rattle.openings.specs.declared.Refusal.TheVariants.{Far, Foreign}
 use Rattle.openings.specs.declared.Opening.{Opening}
-use Rattle.openings.specs.Said.{Said, done, refusal_says}
-use Rattle.openings.specs.Refusals.{FAR, FOREIGN, call_refusal}
-use Rattle.openings.specs.Offsets.{LIMIT, offsets_of, rank_of, place_of, offset_tests, interval_tests, unless_element}
-use Rattle.openings.specs.Openings.{Opens}
+use Rattle.openings.specs.Said.{done}
+use Rattle.openings.specs.Refusals.{FAR, FOREIGN, refusal_says, unless_fault}
+use Rattle.openings.specs.Offsets.{LIMIT, offsets_of, rank_of, place_of, interval_tests, unless_element}
+use Rattle.openings.specs.Openings.{Passes}
 use Rattle.openings.proofs.Orders.{row_there, row_absent, fault_refused, fault_passed}
-use Rattle.openings.proofs.Verdicts.{verdict_refused}
-use Rattle.openings.proofs.Faults.{offset_known}
 use Rattle.openings.proofs.Opens.{ElementFine, OffsetFine, element_on, offset_on, Opened}
 use Rattle.astrephon.specs.Maps.{exact_of, next_of, inverse_of, span_of}
-
--- ---- nothing was opened
-module _ {r : Reading} {e : ℕ} {o : Opening} {row : List ℕ} (O : Opens (unless_element r e) r e o row) (d : o.refusal.number ≡ 0 → ⊥) where
-  pub exact_closed : (x : ℕ) → refusal_says o.refusal ≡ exact_of r e x
-  unfolding exact_of
-  exact_closed x = verdict_refused O.verdict d _
-
-  pub next_closed : (x : ℕ) → refusal_says o.refusal ≡ next_of r e x
-  unfolding next_of
-  next_closed x = verdict_refused O.verdict d _
-
-  pub inverse_closed : (y : ℕ) → refusal_says o.refusal ≡ inverse_of r e y
-  unfolding inverse_of
-  inverse_closed y = verdict_refused O.verdict d _
-
-  pub span_closed : (a z : ℕ) → refusal_says o.refusal ≡ span_of r e a z
-  unfolding span_of
-  span_closed a z = verdict_refused O.verdict d _
 
 -- ---- a file offset is mapped: its own by exact mapping, and any by next mapping
 module _ {r : Reading} {e x : ℕ} (X : OffsetFine r e x) where
@@ -74,75 +52,48 @@ module _ (r : Reading) (e : ℕ) (E : ElementFine r e) where
       ap (λ (n : ℕ). done (n ∷ [])) (sym is)
       ∙ fault_passed _ _ 0 (row_absent FAR _ (lt-leb LIMIT (place_of r e y) (omega (arith, is)))) refl ∙ element_on r e E _
 
+-- ---- an element was opened for a file offset: another element's, or this one's
+module _ {r : Reading} {e x : ℕ} {o : Opening} (K : Opened r e o × OffsetFine r e x) where
+  ranked : (y : ℕ) → y ≡ count_below (belongs o.selection o.numbers) x → done (y ∷ []) ≡ done (rank_of r e x ∷ [])
+  ranked y q = ap (λ (m : ℕ). done (m ∷ [])) (q ∙ ap (λ (p : ℕ → Bool). count_below p x) K.0.is)
+
+  module _ (b : Bool) (has : b ≡ belongs o.selection o.numbers x) where
+    has_too : b ≡ offsets_of r e x
+    has_too = has ∙ ap (λ (p : ℕ → Bool). p x) K.0.is
+
+    pub exact_foreign : b ≡ false → refusal_says Foreign ≡ exact_of r e x
+    unfolding exact_of
+    exact_foreign foreign = fault_refused _ _ FOREIGN (row_there FOREIGN _ (ap not (sym has_too ∙ foreign))) (λ z. absurd (omega arith)) ∙ offset_on r e x K.1 _
+
+    pub exact_at : (y : ℕ) → y ≡ count_below (belongs o.selection o.numbers) x → b ≡ true → done (y ∷ []) ≡ exact_of r e x
+    exact_at y rank own = ranked y rank ∙ exact_own K.1 (sym has_too ∙ own)
+
+  pub next_at : (y : ℕ) → y ≡ count_below (belongs o.selection o.numbers) x → done (y ∷ []) ≡ next_of r e x
+  next_at y rank = ranked y rank ∙ next_any K.1
+
 -- ---- an element was opened
-module _ {r : Reading} {e : ℕ} {s : Selection} {row : List ℕ} (O : Opened r e s row) where
-  on : (next : Said) → next ≡ unless_element r e next
-  on next = element_on r e O.element next
-
-  tests_from : (x n : ℕ) → n ≡ first_fault (offset_tests s.from x) → n ≡ first_fault (offset_tests r.layout.displacement x)
-  tests_from x n q = q ∙ ap (λ (d : ℕ). first_fault (offset_tests d x)) O.from
-
-  ranked : (x y : ℕ) → y ≡ count_below (belongs s row) x → y ≡ rank_of r e x
-  ranked x y q = q ∙ ap (λ (p : ℕ → Bool). count_below p x) O.is
-
-  module _ (x n : ℕ) (q : n ≡ first_fault (offset_tests s.from x)) where
-    -- ---- an offset that is refused
-    module _ (f : Refusal) (made : f ≡ call_refusal n 0) (d : n ≡ 0 → ⊥) where
-      pub exact_fault : refusal_says f ≡ exact_of r e x
-      unfolding exact_of
-      exact_fault = fault_refused _ _ n (tests_from x n q) f made d ∙ on _
-
-      pub next_fault : refusal_says f ≡ next_of r e x
-      unfolding next_of
-      next_fault = fault_refused _ _ n (tests_from x n q) f made d ∙ on _
-
-    -- ---- and one that is not: another element's, or this one's
-    module _ (z : n ≡ 0) where
-      offset : OffsetFine r e x
-      offset = let K = offset_known r.layout.displacement x n (tests_from x n q) z in record { element = O.element; after = K.0; near = K.1 }
-
-      module _ (b : Bool) (has : b ≡ belongs s row x) where
-        has_too : b ≡ offsets_of r e x
-        has_too = has ∙ ap (λ (p : ℕ → Bool). p x) O.is
-
-        pub exact_foreign : (f : Refusal) → f ≡ call_refusal FOREIGN 0 → b ≡ false → refusal_says f ≡ exact_of r e x
-        unfolding exact_of
-        exact_foreign f made foreign =
-            fault_refused _ _ FOREIGN (row_there FOREIGN _ (ap not (sym has_too ∙ foreign))) f made (λ z. absurd (omega arith)) ∙ offset_on r e x offset _
-
-        pub exact_at : (y : ℕ) → y ≡ count_below (belongs s row) x → b ≡ true → done (y ∷ []) ≡ exact_of r e x
-        exact_at y rank own = ap (λ (m : ℕ). done (m ∷ [])) (ranked x y rank) ∙ exact_own offset (sym has_too ∙ own)
-
-      pub next_at : (y : ℕ) → y ≡ count_below (belongs s row) x → done (y ∷ []) ≡ next_of r e x
-      next_at y rank = ap (λ (m : ℕ). done (m ∷ [])) (ranked x y rank) ∙ next_any offset
-
+module _ {r : Reading} {e : ℕ} {o : Opening} (O : Opened r e o) where
   -- ---- the inverse: a byte with no file offset below the limit, and one that has it
   module _ (y : ℕ) where
-    no_place : place_of r e y ≡ LIMIT → (f : Refusal) → f ≡ call_refusal FAR 0 → refusal_says f ≡ inverse_of r e y
+    no_place : place_of r e y ≡ LIMIT → refusal_says Far ≡ inverse_of r e y
     unfolding inverse_of
-    no_place far f made = fault_refused _ _ FAR (row_there FAR _ (le-leb LIMIT (place_of r e y) (omega (arith, far)))) f made (λ z. absurd (omega arith)) ∙ on _
+    no_place far = fault_refused _ _ FAR (row_there FAR _ (le-leb LIMIT (place_of r e y) (omega (arith, far)))) (λ z. absurd (omega arith)) ∙ element_on r e O.element _
 
     -- byte y has y bytes before it
-    pub inverse_past : LIMIT ≤ y → (f : Refusal) → f ≡ call_refusal FAR 0 → refusal_says f ≡ inverse_of r e y
+    pub inverse_past : LIMIT ≤ y → refusal_says Far ≡ inverse_of r e y
     inverse_past h = no_place (nth_none (offsets_of r e) LIMIT y (omega (arith, count_le (offsets_of r e) LIMIT)))
 
     -- a byte at or before y is past the limit, and so is byte y
-    pub inverse_beyond : (z x : ℕ) → Byte (belongs s row) z x → z ≤ y → LIMIT ≤ x → (f : Refusal) → f ≡ call_refusal FAR 0 → refusal_says f ≡ inverse_of r e y
+    pub inverse_beyond : (z x : ℕ) → Byte (belongs o.selection o.numbers) z x → z ≤ y → LIMIT ≤ x → refusal_says Far ≡ inverse_of r e y
     inverse_beyond z x byte l h = no_place (inverse_far (offsets_of r e) z x (rw (← O.is) byte) LIMIT h y l)
 
-    pub inverse_at : (x : ℕ) → Byte (belongs s row) y x → x < LIMIT → done (x ∷ []) ≡ inverse_of r e y
+    pub inverse_at : (x : ℕ) → Byte (belongs o.selection o.numbers) y x → x < LIMIT → done (x ∷ []) ≡ inverse_of r e y
     inverse_at x byte h = inverse_own r e O.element y x (rw (← O.is) byte) h
 
-  -- ---- the span
-  module _ (a z n : ℕ) (q : n ≡ first_fault (interval_tests s.from a z)) where
-    interval_from : n ≡ first_fault (interval_tests r.layout.displacement a z)
-    interval_from = q ∙ ap (λ (d : ℕ). first_fault (interval_tests d a z)) O.from
-
-    pub span_fault : (f : Refusal) → f ≡ call_refusal n 0 → (n ≡ 0 → ⊥) → refusal_says f ≡ span_of r e a z
-    unfolding span_of
-    span_fault f made d = fault_refused _ _ n interval_from f made d ∙ on _
-
-    pub span_at : n ≡ 0 → (first last : ℕ) → first ≡ count_below (belongs s row) a → last ≡ count_below (belongs s row) z → done (first ∷ last ∷ []) ≡ span_of r e a z
-    unfolding span_of
-    span_at none first last f l =
-        (λ i. done (ranked a first f i ∷ ranked z last l i ∷ [])) ∙ fault_passed _ _ n interval_from none ∙ on _
+  -- ---- the span, of an interval that passes
+  pub span_at : (a z : ℕ) → Passes (λ next. unless_element r e (unless_fault (interval_tests r.layout.displacement a z) next))
+      → (first last : ℕ) → first ≡ count_below (belongs o.selection o.numbers) a → last ≡ count_below (belongs o.selection o.numbers) z → done (first ∷ last ∷ []) ≡ span_of r e a z
+  unfolding span_of
+  span_at a z P first last f l =
+      let rank : (x y : ℕ) → y ≡ count_below (belongs o.selection o.numbers) x → y ≡ rank_of r e x = λ x y q. q ∙ ap (λ (p : ℕ → Bool). count_below p x) O.is in
+      (λ i. done (rank a first f i ∷ rank z last l i ∷ [])) ∙ P _

@@ -5,7 +5,10 @@ use mathlib.Core.Bool.{not}
 use Prim.Native.Nat.{ℕ, ◌-◌}
 use lib.Dec.{leb, ltb}
 use lib.ListN.{length}
+use Rattle.std.specs.Prelude.{Err}
 use Rattle.counting.proofs.Cases.{by_test}
+use Rattle.families.specs.declared.FileOffset.{FileOffset}
+use Rattle.families.specs.declared.SubfileOffset.{SubfileOffset}
 use Rattle.sheets.specs.Refusals.{one_of, ◌when◌}
 use Rattle.sheets.specs.Sheet.{read_sheet}
 use Rattle.sheets.proofs.Numbered.{listed}
@@ -19,25 +22,16 @@ use Rattle.openings.proofs.Orders.{left_held}
 use Rattle.openings.proofs.Tabled.{room_of, done_tabled, sheet_tabled, fault_tabled}
 use Rattle.runs.specs.Listing.{capacity}
 use Rattle.lines.specs.Listing.{listing}
-use Rattle.astrephon.specs.Says.{checked_says, mapped_says, located_says, spanned_says, listed_says, measured_says, written_says, carried_says}
+use Rattle.astrephon.specs.Says.{says, fact_values, subfile_value, file_value, interval_values, number_value, no_values}
 use Rattle.astrephon.specs.Check.{check_of}
 use Rattle.astrephon.specs.Maps.{exact_of, next_of, inverse_of, span_of}
 use Rattle.astrephon.specs.Shares.{unless_room, shared_runs_of}
 use Rattle.astrephon.specs.Carries.{packed_length_of, gather_of, scatter_of}
 use Rattle.astrephon.specs.Moves.{move_of, pair_move_of}
 use Rattle.astrephon.specs.Texts.{text_outcome}
-use Rattle.astrephon.specs.declared.Checked.{Checked}
-use Rattle.astrephon.specs.declared.Mapped.{Mapped}
-use Rattle.astrephon.specs.declared.Located.{Located}
-use Rattle.astrephon.specs.declared.Spanned.{Spanned}
-use Rattle.astrephon.specs.declared.Listed.{Listed}
-use Rattle.astrephon.specs.declared.Listed.TheVariants as listed-as
-use Rattle.astrephon.specs.declared.Measured.{Measured}
-use Rattle.astrephon.specs.declared.Carried.{Carried}
-use Rattle.astrephon.specs.declared.Carried.TheVariants as carried-as
-use Rattle.astrephon.specs.declared.Written.{Written}
-use Rattle.astrephon.specs.declared.Written.TheVariants as written_as
-use Rattle.astrephon.proofs.Contracts.{Made, Check, Exact, Next, Inverse, Span, PackedLen, SharedRuns, Gather, Scatter, MoveTray, MovePair, ListSheet}
+use Rattle.astrephon.specs.declared.Facts.{Facts}
+use Rattle.astrephon.specs.declared.Interval.{Interval}
+use Rattle.astrephon.proofs.Contracts.{Answer, Carried, Made, Check, Exact, Next, Inverse, Span, PackedLen, SharedRuns, Gather, Scatter, MoveTray, MovePair, ListSheet}
 
 -- ---- what several calls check
 module _ (next : Said) (h : OfTable next) (xs : List ℕ) where
@@ -65,29 +59,29 @@ buffers_tabled xs e a b file packed =
 
 -- ---- EACH CALL: what it says is of the table
 module _ (m : Made 1) (xs : List ℕ) where
-  pub check_tabled : (r : Checked) → Check m xs r → OfTable (checked_says r)
+  pub check_tabled : (r : Answer Facts) → Check m xs r → OfTable (says fact_values r)
   unfolding check_of one_of
   check_tabled r p = rw p (sheet_tabled _ (done_tabled _) xs 1 refl)
 
   module _ (e : ℕ) where
-    pub exact_tabled : (x : ℕ) (r : Mapped) → Exact m xs e x r → OfTable (mapped_says r)
+    pub exact_tabled : (x : ℕ) (r : Answer SubfileOffset) → Exact m xs e x r → OfTable (says subfile_value r)
     unfolding exact_of listed one_of
     exact_tabled x r p =
         rw p (element_tabled _ (fault_tabled _ (fault_tabled _ (done_tabled _) ((FOREIGN when not (offsets_of (read_sheet xs) e x)) ∷ []) refl) (offset_tests (read_sheet xs).layout.displacement x) refl) xs e)
 
-    pub next_tabled : (x : ℕ) (r : Mapped) → Next m xs e x r → OfTable (mapped_says r)
+    pub next_tabled : (x : ℕ) (r : Answer SubfileOffset) → Next m xs e x r → OfTable (says subfile_value r)
     unfolding next_of listed one_of
     next_tabled x r p = rw p (element_tabled _ (fault_tabled _ (done_tabled _) (offset_tests (read_sheet xs).layout.displacement x) refl) xs e)
 
-    pub inverse_tabled : (y : ℕ) (r : Located) → Inverse m xs e y r → OfTable (located_says r)
+    pub inverse_tabled : (y : ℕ) (r : Answer FileOffset) → Inverse m xs e y r → OfTable (says file_value r)
     unfolding inverse_of listed one_of
     inverse_tabled y r p = rw p (element_tabled _ (fault_tabled _ (done_tabled _) ((FAR when leb LIMIT (place_of (read_sheet xs) e y)) ∷ []) refl) xs e)
 
-    pub span_tabled : (a z : ℕ) (r : Spanned) → Span m xs e a z r → OfTable (spanned_says r)
+    pub span_tabled : (a z : ℕ) (r : Answer Interval) → Span m xs e a z r → OfTable (says interval_values r)
     unfolding span_of listed one_of
     span_tabled a z r p = rw p (element_tabled _ (fault_tabled _ (done_tabled _) (interval_tests (read_sheet xs).layout.displacement a z) refl) xs e)
 
-    pub packed_len_tabled : (a b : ℕ) (r : Measured) → PackedLen m xs e a b r → OfTable (measured_says r)
+    pub packed_len_tabled : (a b : ℕ) (r : Answer ℕ) → PackedLen m xs e a b r → OfTable (says number_value r)
     unfolding packed_length_of
     packed_len_tabled a b r p = rw p (window_tabled _ (done_tabled _) xs e a b)
 
@@ -96,17 +90,17 @@ unfolding unless_room OfTable
 room_tabled n held next h = by_test (leb n (capacity held)) (λ fits. rw fits h) (λ over. rw over (room_of n))
 
 module _ (m : Made 3) where
-  pub shared_runs_tabled : (xs ys : List ℕ) (i j a b : ℕ) (held : List ℕ) (r : Listed) (later : List ℕ) → SharedRuns m xs ys i j a b held r later → OfTable (listed_says r)
+  pub shared_runs_tabled : (xs ys : List ℕ) (i j a b : ℕ) (held : List ℕ) (r : Answer ℕ) (later : List ℕ) → SharedRuns m xs ys i j a b held r later → OfTable (says number_value r)
   unfolding shared_runs_of listed one_of
   shared_runs_tabled xs ys i j a b held r later p =
       rw p.0 (elements_tabled _ (fault_tabled _ (room_tabled _ held _ (done_tabled _)) (window_tests (both_from (read_sheet xs) (read_sheet ys)) a b) refl) xs ys i j)
 
   module _ (xs : List ℕ) (e a b : ℕ) (from held : List ℕ) (r : Carried) (later : List ℕ) where
-    pub gather_tabled : Gather m xs e a b from held r later → OfTable (carried_says r)
+    pub gather_tabled : Gather m xs e a b from held r later → OfTable (says no_values r)
     unfolding gather_of
     gather_tabled p = rw p.0 (buffers_tabled xs e a b (length from) (length held))
 
-    pub scatter_tabled : Scatter m xs e a b from held r later → OfTable (carried_says r)
+    pub scatter_tabled : Scatter m xs e a b from held r later → OfTable (says no_values r)
     unfolding scatter_of
     scatter_tabled p = rw p.0 (buffers_tabled xs e a b (length held) (length from))
 
@@ -115,43 +109,43 @@ module _ (m : Made 4) (xs ys : List ℕ) (a b : ℕ) (t held : List ℕ) (r : Ca
   unfolding listed one_of
   trays_tabled = fault_tabled _ (done_tabled []) (tray_tests (both_from (read_sheet xs) (read_sheet ys)) a b (length t) (length held)) refl
 
-  pub move_tray_tabled : MoveTray m xs ys a b t held r later → OfTable (carried_says r)
+  pub move_tray_tabled : MoveTray m xs ys a b t held r later → OfTable (says no_values r)
   unfolding move_of
   move_tray_tabled p = rw p.0 (sheets_tabled _ trays_tabled xs ys)
 
-  pub move_pair_tabled : (i j : ℕ) → MovePair m xs ys i j a b t held r later → OfTable (carried_says r)
+  pub move_pair_tabled : (i j : ℕ) → MovePair m xs ys i j a b t held r later → OfTable (says no_values r)
   unfolding pair_move_of
   move_pair_tabled i j p = rw p.0 (elements_tabled _ trays_tabled xs ys i j)
 
-pub list_sheet_tabled : (m : Made 2) (xs held : List ℕ) (r : Written) (later : List ℕ) → ListSheet m xs held r later → OfTable (written_says r)
+pub list_sheet_tabled : (m : Made 2) (xs held : List ℕ) (r : Answer ℕ) (later : List ℕ) → ListSheet m xs held r later → OfTable (says number_value r)
 unfolding text_outcome listed one_of
 list_sheet_tabled m xs held r later p = rw p.0 (fault_tabled _ (done_tabled _) ((BUFFER when ltb (length held) (length (listing (read_sheet xs)))) ∷ []) refl)
 
 -- ---- EACH CALL THAT WRITES: refused, it leaves the buffer as it was
 module _ (f : Refusal) (later : List ℕ) where
   module _ (m : Made 3) where
-    pub shared_runs_stays : (xs ys : List ℕ) (i j a b : ℕ) (held : List ℕ) → SharedRuns m xs ys i j a b held (listed-as.Refused f) later → later ≡ held
+    pub shared_runs_stays : (xs ys : List ℕ) (i j a b : ℕ) (held : List ℕ) → SharedRuns m xs ys i j a b held (Err f) later → later ≡ held
     unfolding shared_runs_of
     shared_runs_stays xs ys i j a b held p = p.1 ∙ left_held held _ p.0
 
     module _ (xs : List ℕ) (e a b : ℕ) (from held : List ℕ) where
-      pub gather_stays : Gather m xs e a b from held (carried-as.Refused f) later → later ≡ held
+      pub gather_stays : Gather m xs e a b from held (Err f) later → later ≡ held
       unfolding gather_of
       gather_stays p = p.1 ∙ left_held held _ p.0
 
-      pub scatter_stays : Scatter m xs e a b from held (carried-as.Refused f) later → later ≡ held
+      pub scatter_stays : Scatter m xs e a b from held (Err f) later → later ≡ held
       unfolding scatter_of
       scatter_stays p = p.1 ∙ left_held held _ p.0
 
   module _ (m : Made 4) (xs ys : List ℕ) (a b : ℕ) (t held : List ℕ) where
-    pub move_tray_stays : MoveTray m xs ys a b t held (carried-as.Refused f) later → later ≡ held
+    pub move_tray_stays : MoveTray m xs ys a b t held (Err f) later → later ≡ held
     unfolding move_of
     move_tray_stays p = p.1 ∙ left_held held _ p.0
 
-    pub move_pair_stays : (i j : ℕ) → MovePair m xs ys i j a b t held (carried-as.Refused f) later → later ≡ held
+    pub move_pair_stays : (i j : ℕ) → MovePair m xs ys i j a b t held (Err f) later → later ≡ held
     unfolding pair_move_of
     move_pair_stays i j p = p.1 ∙ left_held held _ p.0
 
-  pub list_sheet_stays : (m : Made 2) (xs held : List ℕ) → ListSheet m xs held (written_as.Refused f) later → later ≡ held
+  pub list_sheet_stays : (m : Made 2) (xs held : List ℕ) → ListSheet m xs held (Err f) later → later ≡ held
   unfolding text_outcome
   list_sheet_stays m xs held p = p.1 ∙ left_held held _ p.0

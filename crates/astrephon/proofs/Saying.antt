@@ -1,122 +1,114 @@
 -- TWO ANSWERS THAT SAY THE SAME are equal: of each type of answer, what is said gives the answer back. Assumes nothing.
 use mathlib.Core.Path.{◌≡◌, refl, sym, ap, ◌∙◌}
+use mathlib.Core.Bool.{cond}
 use mathlib.Core.List.{List}
 use Prim.Native.Nat.{ℕ}
+use lib.Dec.{eqb}
 use lib.ListN.{get_or}
+use Rattle.std.specs.Prelude.{Ok, Err}
+use Rattle.families.specs.declared.FileOffset.{FileOffset}
+use Rattle.families.specs.declared.SubfileOffset.{SubfileOffset}
+use Rattle.sheets.specs.Refusals.{SHORT, KIND, LENGTH, COUNT, MANY, SEGMENT, SPAN, ORDER, DEPTH, TRAILING, HOLE}
+use Rattle.sheets.specs.Answered.{fault_number, fault_flag}
+use Rattle.sheets.specs.declared.refusals.Fault.{Fault}
+use Rattle.sheets.specs.declared.refusals.Fault.TheVariants as fault
+use Rattle.sheets.specs.declared.refusals.Refused.{Refused}
+use Rattle.openings.specs.declared.Which.TheVariants.{First, Second}
 use Rattle.openings.specs.declared.Refusal.{Refusal}
+use Rattle.openings.specs.declared.Refusal.TheVariants.{Sheet, Element, Before, Far, Window, Foreign, Buffer, Room}
 use Rattle.openings.specs.Said.{Said, done, refused}
-use Rattle.astrephon.specs.Says.{checked_says, mapped_says, located_says, spanned_says, listed_says, measured_says, written_says, carried_says}
-use Rattle.astrephon.specs.declared.Checked.{Checked}
-use Rattle.astrephon.specs.declared.Checked.TheVariants as checked
-use Rattle.astrephon.specs.declared.Mapped.{Mapped}
-use Rattle.astrephon.specs.declared.Mapped.TheVariants as mapped
-use Rattle.astrephon.specs.declared.Located.{Located}
-use Rattle.astrephon.specs.declared.Located.TheVariants as located
-use Rattle.astrephon.specs.declared.Spanned.{Spanned}
-use Rattle.astrephon.specs.declared.Spanned.TheVariants as spanned
-use Rattle.astrephon.specs.declared.Listed.{Listed}
-use Rattle.astrephon.specs.declared.Listed.TheVariants as listed
-use Rattle.astrephon.specs.declared.Measured.{Measured}
-use Rattle.astrephon.specs.declared.Measured.TheVariants as measured
-use Rattle.astrephon.specs.declared.Carried.{Carried}
-use Rattle.astrephon.specs.declared.Carried.TheVariants as carried
-use Rattle.astrephon.specs.declared.Written.{Written}
-use Rattle.astrephon.specs.declared.Written.TheVariants as written
+use Rattle.openings.specs.Refusals.{ELEMENT, BEFORE, FAR, WINDOW, FOREIGN, BUFFER, refusal_says}
+use Rattle.astrephon.specs.Says.{says, fact_values, subfile_value, file_value, interval_values, number_value, no_values}
+use Rattle.astrephon.specs.declared.Facts.{Facts}
+use Rattle.astrephon.specs.declared.Interval.{Interval}
+use Rattle.astrephon.proofs.Contracts.{Answer}
 
--- ---- an answer by its cases: what is made of the values, and what of a refusal
-by_cases : {A : Type 0} → (work : List ℕ → A) → (refusal : Refusal → A) → Said → A
-by_cases work refusal (done values) = work values
-by_cases work refusal (refused number sheet place flag) = refusal (record { number = number; sheet = sheet; place = place; flag = flag })
+-- ---- a refusal by what it tells: of a sheet, or of what else the call was given
+of_call : (number place : ℕ) → Refusal
+of_call number place =
+    cond (eqb number ELEMENT) Element
+    (cond (eqb number BEFORE) Before
+    (cond (eqb number FAR) Far
+    (cond (eqb number WINDOW) Window
+    (cond (eqb number FOREIGN) Foreign
+    (cond (eqb number BUFFER) Buffer (Room place))))))
 
--- what gives every answer back tells answers apart
-told_apart : {A : Type 0} (says : A → Said) (back : Said → A) → ((r : A) → back (says r) ≡ r) → (r s : A) → says r ≡ says s → r ≡ s
-told_apart says back is r s e = sym (is r) ∙ ap back e ∙ is s
+of_fault : (number flag : ℕ) → Fault
+of_fault number flag =
+    cond (eqb number SHORT) fault.Short
+    (cond (eqb number KIND) fault.Kind
+    (cond (eqb number LENGTH) fault.Length
+    (cond (eqb number COUNT) fault.Count
+    (cond (eqb number MANY) fault.Many
+    (cond (eqb number SEGMENT) fault.Segment
+    (cond (eqb number SPAN) fault.Span
+    (cond (eqb number ORDER) fault.Order
+    (cond (eqb number DEPTH) fault.Depth
+    (cond (eqb number TRAILING) fault.Trailing
+    (cond (eqb flag HOLE) fault.Hole fault.Overlap))))))))))
+
+fault_back : (f : Fault) → of_fault (fault_number f) (fault_flag f) ≡ f
+unfolding of_fault
+fault_back fault.Short = refl
+fault_back fault.Kind = refl
+fault_back fault.Length = refl
+fault_back fault.Count = refl
+fault_back fault.Many = refl
+fault_back fault.Segment = refl
+fault_back fault.Span = refl
+fault_back fault.Order = refl
+fault_back fault.Depth = refl
+fault_back fault.Trailing = refl
+fault_back fault.Hole = refl
+fault_back fault.Overlap = refl
+
+to_refusal : (number sheet place flag : ℕ) → Refusal
+to_refusal number sheet place flag =
+    let refused-sheet : Refused = record { fault = of_fault number flag; place = place } in
+    cond (eqb sheet 1) (Sheet First refused-sheet) (cond (eqb sheet 2) (Sheet Second refused-sheet) (of_call number place))
+
+-- ---- an answer by what is said: what `back` makes of the values, or the refusal
+module _ {A : Type 0} (values : A → List ℕ) (back : List ℕ → A) (is : (a : A) → back (values a) ≡ a) where
+  to_answer : Said → Answer A
+  to_answer (done given) = Ok (back given)
+  to_answer (refused number sheet place flag) = Err (to_refusal number sheet place flag)
+
+  refused_back : (f : Refusal) → to_answer (refusal_says f) ≡ Err f
+  unfolding to_answer to_refusal of_call
+  refused_back (Sheet First f) = λ i. Err (Sheet First (record { fault = fault_back f.fault i; place = f.place }))
+  refused_back (Sheet Second f) = λ i. Err (Sheet Second (record { fault = fault_back f.fault i; place = f.place }))
+  refused_back Element = refl
+  refused_back Before = refl
+  refused_back Far = refl
+  refused_back Window = refl
+  refused_back Foreign = refl
+  refused_back Buffer = refl
+  refused_back (Room n) = refl
+
+  answer_back : (r : Answer A) → to_answer (says values r) ≡ r
+  unfolding to_answer
+  answer_back (Ok a) = ap Ok (is a)
+  answer_back (Err f) = refused_back f
+
+  -- what gives every answer back tells answers apart
+  told_apart : (r s : Answer A) → says values r ≡ says values s → r ≡ s
+  told_apart r s e = sym (answer_back r) ∙ ap to_answer e ∙ answer_back s
 
 -- ---- each type of answer
-to_checked : Said → Checked
-to_checked = by_cases (λ values. checked.Accepted (record { size = get_or values 0 0; elements = get_or values 1 0; displacement = get_or values 2 0 })) checked.Refused
+pub checked_same : (r s : Answer Facts) → says fact_values r ≡ says fact_values s → r ≡ s
+checked_same = told_apart fact_values (λ given. record { size = get_or given 0 0; elements = get_or given 1 0; displacement = get_or given 2 0 }) (λ f. refl)
 
-checked_back : (r : Checked) → to_checked (checked_says r) ≡ r
-unfolding to_checked by_cases
-checked_back (checked.Accepted f) = refl
-checked_back (checked.Refused f) = refl
+pub mapped_same : (r s : Answer SubfileOffset) → says subfile_value r ≡ says subfile_value s → r ≡ s
+mapped_same = told_apart subfile_value (λ given. record { 0 = get_or given 0 0 }) (λ y. refl)
 
-pub checked_same : (r s : Checked) → checked_says r ≡ checked_says s → r ≡ s
-checked_same = told_apart checked_says to_checked checked_back
+pub located_same : (r s : Answer FileOffset) → says file_value r ≡ says file_value s → r ≡ s
+located_same = told_apart file_value (λ given. record { 0 = get_or given 0 0 }) (λ x. refl)
 
-to_mapped : Said → Mapped
-to_mapped = by_cases (λ values. mapped.At (record { 0 = get_or values 0 0 })) mapped.Refused
+pub spanned_same : (r s : Answer Interval) → says interval_values r ≡ says interval_values s → r ≡ s
+spanned_same = told_apart interval_values (λ given. record { first = record { 0 = get_or given 0 0 }; last = record { 0 = get_or given 1 0 } }) (λ i. refl)
 
-mapped_back : (r : Mapped) → to_mapped (mapped_says r) ≡ r
-unfolding to_mapped by_cases
-mapped_back (mapped.At y) = refl
-mapped_back (mapped.Refused f) = refl
+pub counted_same : (r s : Answer ℕ) → says number_value r ≡ says number_value s → r ≡ s
+counted_same = told_apart number_value (λ given. get_or given 0 0) (λ n. refl)
 
-pub mapped_same : (r s : Mapped) → mapped_says r ≡ mapped_says s → r ≡ s
-mapped_same = told_apart mapped_says to_mapped mapped_back
-
-to_located : Said → Located
-to_located = by_cases (λ values. located.At (record { 0 = get_or values 0 0 })) located.Refused
-
-located_back : (r : Located) → to_located (located_says r) ≡ r
-unfolding to_located by_cases
-located_back (located.At x) = refl
-located_back (located.Refused f) = refl
-
-pub located_same : (r s : Located) → located_says r ≡ located_says s → r ≡ s
-located_same = told_apart located_says to_located located_back
-
-to_spanned : Said → Spanned
-to_spanned = by_cases (λ values. spanned.Range (record { 0 = get_or values 0 0 }) (record { 0 = get_or values 1 0 })) spanned.Refused
-
-spanned_back : (r : Spanned) → to_spanned (spanned_says r) ≡ r
-unfolding to_spanned by_cases
-spanned_back (spanned.Range first last) = refl
-spanned_back (spanned.Refused f) = refl
-
-pub spanned_same : (r s : Spanned) → spanned_says r ≡ spanned_says s → r ≡ s
-spanned_same = told_apart spanned_says to_spanned spanned_back
-
-to_listed : Said → Listed
-to_listed = by_cases (λ values. listed.Runs (get_or values 0 0)) listed.Refused
-
-listed_back : (r : Listed) → to_listed (listed_says r) ≡ r
-unfolding to_listed by_cases
-listed_back (listed.Runs n) = refl
-listed_back (listed.Refused f) = refl
-
-pub listed_same : (r s : Listed) → listed_says r ≡ listed_says s → r ≡ s
-listed_same = told_apart listed_says to_listed listed_back
-
-to_measured : Said → Measured
-to_measured = by_cases (λ values. measured.Bytes (get_or values 0 0)) measured.Refused
-
-measured_back : (r : Measured) → to_measured (measured_says r) ≡ r
-unfolding to_measured by_cases
-measured_back (measured.Bytes n) = refl
-measured_back (measured.Refused f) = refl
-
-pub measured_same : (r s : Measured) → measured_says r ≡ measured_says s → r ≡ s
-measured_same = told_apart measured_says to_measured measured_back
-
-to_written : Said → Written
-to_written = by_cases (λ values. written.Bytes (get_or values 0 0)) written.Refused
-
-written_back : (r : Written) → to_written (written_says r) ≡ r
-unfolding to_written by_cases
-written_back (written.Bytes n) = refl
-written_back (written.Refused f) = refl
-
-pub written_same : (r s : Written) → written_says r ≡ written_says s → r ≡ s
-written_same = told_apart written_says to_written written_back
-
-to_carried : Said → Carried
-to_carried = by_cases (λ values. carried.Done) carried.Refused
-
-carried_back : (r : Carried) → to_carried (carried_says r) ≡ r
-unfolding to_carried by_cases
-carried_back carried.Done = refl
-carried_back (carried.Refused f) = refl
-
-pub carried_same : (r s : Carried) → carried_says r ≡ carried_says s → r ≡ s
-carried_same = told_apart carried_says to_carried carried_back
+pub carried_same : (r s : Answer (Unit {0})) → says no_values r ≡ says no_values s → r ≡ s
+carried_same = told_apart no_values (λ given. tt) (λ u. refl)

@@ -3,9 +3,8 @@
 use mathlib.Core.Path.{◌≡◌}
 use mathlib.Core.List.{List, [], ◌∷◌, ◌++◌}
 use Prim.Native.Nat.{ℕ}
-use Rattle.astrephon.specs.declared.Carried.{Carried}
 use Rattle.astrephon.specs.Sequences.{Stop}
-use Rattle.astrephon.proofs.Contracts.{Made, Gather, Scatter, MoveTray, MovePair}
+use Rattle.astrephon.proofs.Contracts.{Carried, Made, Gather, Scatter, MoveTray, MovePair}
 
 -- one call
 abbrev pub Moved : (xs ys : List ℕ) → (a b : ℕ) → (t held later : List ℕ) → Type 0

@@ -7,26 +7,25 @@ use native.Mathlib.Omega.{arith}
 use lib.Dec.{leb}
 use lib.ListN.{length}
 use borrow.Author.Tests.{leb-true}
+use Rattle.std.specs.Prelude.{Ok, Err}
 use Rattle.counting.specs.Count.{count_in}
 use Rattle.counting.specs.Runs.{total, covers, Spaced, Maximal}
 use Rattle.counting.proofs.Cases.{by_test}
 use Rattle.counting.proofs.Runs.{runs_spaced, runs_cover, runs_maximal}
 use Rattle.counting.proofs.RunCounts.{runs_total}
-use Rattle.sheets.specs.declared.Reading.{Reading}
+use Rattle.sheets.specs.Reading.{Reading}
 use Rattle.sheets.specs.Sheet.{read_sheet}
 use Rattle.openings.specs.Said.{Said, done}
-use Rattle.openings.specs.Refusals.{ROOM, call_refusal}
+use Rattle.openings.specs.declared.Refusal.TheVariants.{Room}
 use Rattle.openings.specs.Offsets.{LIMIT, offsets_of, window_tests, both_from}
 use Rattle.openings.proofs.Orders.{never_both, fault_passed, fault_through, same_value, left_held, left_written}
 use Rattle.openings.proofs.Faults.{range_fine}
 use Rattle.openings.proofs.PairOpens.{elements_on, elements_through}
 use Rattle.runs.specs.Listing.{both, shared_runs, list_with, capacity}
-use Rattle.astrephon.specs.declared.Listed.{Listed}
-use Rattle.astrephon.specs.declared.Listed.TheVariants.{Runs, Refused}
 use Rattle.astrephon.specs.Shares.{runs_of_pair, unless_room, shared_runs_of}
 use Rattle.astrephon.specs.Sequences.{Takes, Forward}
 use Rattle.astrephon.proofs.Contracts as contracts
-use Rattle.astrephon.proofs.Saying.{listed_same}
+use Rattle.astrephon.proofs.Saying.{counted_same}
 use Rattle.astrephon.proofs.Listings.{room_refused}
 
 -- ---- WHAT THE RUNS ARE, of any two selections p and q: their offsets are in both, inside the window none can be made longer, they ascend and never touch, and
@@ -60,7 +59,7 @@ module _ (m : contracts.Made 3) (xs ys : List ℕ) (i j a b : ℕ) (held later :
   r2 = read_sheet ys
 
   -- THE ANSWER is the number of runs, and the list holds them
-  pub shared_says : (n : ℕ) → contracts.SharedRuns m xs ys i j a b held (Runs n) later
+  pub shared_says : (n : ℕ) → contracts.SharedRuns m xs ys i j a b held (Ok n) later
       → let runs = runs_of_pair r1 r2 i j a b in (n ≡ length runs) × (n ≤ capacity held) × (later ≡ list_with (offsets_of r1 i) (offsets_of r2 j) runs held)
   unfolding shared_runs_of
   shared_says n p =
@@ -73,12 +72,12 @@ module _ (m : contracts.Made 3) (xs ys : List ℕ) (i j a b : ℕ) (held later :
 
   -- THE ROOM that is wanted where the list is too short: as many runs as there are, and the list stays
   pub shared_room_says : Takes xs a → Takes ys a → Forward a b → i < r1.layout.elements → j < r2.layout.elements → capacity held < length (runs_of_pair r1 r2 i j a b)
-      → (r : Listed) → contracts.SharedRuns m xs ys i j a b held r later → (r ≡ Refused (call_refusal ROOM (length (runs_of_pair r1 r2 i j a b)))) × (later ≡ held)
+      → (r : contracts.Answer ℕ) → contracts.SharedRuns m xs ys i j a b held r later → (r ≡ Err (Room (length (runs_of_pair r1 r2 i j a b)))) × (later ≡ held)
   unfolding shared_runs_of
   shared_room_says X Y W first second short r p =
       let n = length (runs_of_pair r1 r2 i j a b) in
       let refuses =
-      room_refused n held (done (n ∷ [])) short (call_refusal ROOM n) refl
+      room_refused n held (done (n ∷ [])) short
       ∙ fault_passed _ (window_tests (both_from r1 r2) a b) 0 (range_fine LIMIT _ a b W.forward (omega (arith, X.after, Y.after)) W.near) refl
       ∙ elements_on r1 r2 i j (record { fine = X.fine; there = first }) (record { fine = Y.fine; there = second }) _ in
-      (listed_same r (Refused (call_refusal ROOM n)) (p.0 ∙ sym refuses), p.1 ∙ left_held held _ refuses)
+      (counted_same r (Err (Room n)) (p.0 ∙ sym refuses), p.1 ∙ left_held held _ refuses)

@@ -10,10 +10,10 @@ use lib.ListN.{length, take, drop, length-append}
 use lib.Seq.{paste, length-take-le}
 use Rattle.sheets.specs.Refusals.{◌when◌}
 use Rattle.words.specs.Texts.{Put}
-use Rattle.openings.specs.declared.Refusal.{Refusal}
-use Rattle.openings.specs.Said.{done, refusal_says}
-use Rattle.openings.specs.Refusals.{BUFFER, call_refusal}
-use Rattle.openings.proofs.Orders.{row_there, row_absent, fault_refused, fault_passed, fault_through, same_value, left_written, writes_not, writes}
+use Rattle.openings.specs.declared.Refusal.TheVariants.{Buffer}
+use Rattle.openings.specs.Said.{done}
+use Rattle.openings.specs.Refusals.{BUFFER, refusal_says}
+use Rattle.openings.proofs.Orders.{row_there, row_absent, fault_refused, fault_passed, fault_through, same_value, left_held, left_written}
 use Rattle.astrephon.specs.Texts.{text_outcome}
 
 -- ---- a text of n bytes stands at the front of `whole`
@@ -24,19 +24,27 @@ module _ {text before whole : List ℕ} {most n : ℕ} (P : Put text most 0 n be
   text_long : length text ≡ n
   text_long = ap length (sym text_is) ∙ length-take-le n whole (omega (arith, P.short, P.kept))
 
-  module _ (held : List ℕ) where
-    pub written_refused : (f : Refusal) → f ≡ call_refusal BUFFER 0 → length held < n → let outcome = text_outcome text held in (refusal_says f ≡ outcome.says) × (held ≡ outcome.later)
+  -- the buffer is shorter, and nothing is written
+  module _ (held : List ℕ) (over : length held < n) where
+    pub buffer_says : refusal_says Buffer ≡ (text_outcome text held).says
     unfolding text_outcome
-    written_refused f is short =
-        writes_not held _ f (fault_refused _ _ BUFFER (row_there BUFFER _ (lt-ltb (length held) (length text) (omega (arith, text_long)))) f is (λ z. omega arith))
+    buffer_says = fault_refused _ _ BUFFER (row_there BUFFER _ (lt-ltb (length held) (length text) (omega (arith, text_long)))) (λ z. omega arith)
 
-    pub written_done : {later : List ℕ} → n ≤ length held → later ≡ paste held 0 whole n → let outcome = text_outcome text held in (done (n ∷ []) ≡ outcome.says) × (later ≡ outcome.later)
+    pub buffer_leaves : held ≡ (text_outcome text held).later
     unfolding text_outcome
-    written_done fits is =
+    buffer_leaves = sym (left_held held _ buffer_says)
+
+  -- or the text is at its front
+  module _ (held : List ℕ) (fits : n ≤ length held) where
+    pub text_says : done (n ∷ []) ≡ (text_outcome text held).says
+    unfolding text_outcome
+    text_says = ap (λ (m : ℕ). done (m ∷ [])) (sym text_long) ∙ fault_passed _ _ 0 (row_absent BUFFER _ (le-ltb (length held) (length text) (omega (arith, text_long)))) refl
+
+    pub text_leaves : {later : List ℕ} → later ≡ paste held 0 whole n → later ≡ (text_outcome text held).later
+    unfolding text_outcome
+    text_leaves is =
         let front : paste held 0 whole n ≡ text ++ drop (length text) held = rw (zero-add, text_is, text_long) refl in
-        writes held _
-        (ap (λ (m : ℕ). done (m ∷ [])) (sym text_long) ∙ fault_passed _ _ 0 (row_absent BUFFER _ (le-ltb (length held) (length text) (omega (arith, text_long)))) refl)
-        (is ∙ front)
+        is ∙ front ∙ sym (left_written held _ text_says)
 
 -- ---- what was written is no longer than what it was written to
 pub written_fits : (text held : List ℕ) {later : List ℕ} {n : ℕ} → done (n ∷ []) ≡ (text_outcome text held).says → later ≡ (text_outcome text held).later → n ≤ length later

@@ -7,11 +7,12 @@ use Prim.Native.Nat.{ℕ, ◌-◌, ◌≤◌, ◌<◌}
 use native.Mathlib.Omega.{arith}
 use lib.Dec.{leb}
 use borrow.Author.Tests.{leb-false, not-false}
+use Rattle.std.specs.Prelude.{Ok}
 use Rattle.counting.specs.Elements.{Elements}
 use Rattle.counting.proofs.Nths.{nth_found, nth_exactly}
 use Rattle.families.specs.declared.FileOffset.{FileOffset}
 use Rattle.families.specs.declared.SubfileOffset.{SubfileOffset}
-use Rattle.sheets.specs.declared.Reading.{Reading}
+use Rattle.sheets.specs.Reading.{Reading}
 use Rattle.sheets.specs.Refusals.{◌when◌}
 use Rattle.sheets.specs.Sheet.{read_sheet}
 use Rattle.sheets.proofs.Accepted.{accepted_law}
@@ -24,13 +25,9 @@ use Rattle.openings.specs.Refusals.{FAR, FOREIGN}
 use Rattle.openings.specs.Offsets.{LIMIT, offsets_of, rank_of, place_of}
 use Rattle.openings.proofs.Orders.{fault_through, same_value}
 use Rattle.openings.proofs.Opens.{ElementFine, OffsetFine, element_through, offset_through}
-use Rattle.astrephon.specs.declared.Mapped.{Mapped}
-use Rattle.astrephon.specs.declared.Mapped.TheVariants as mapped
-use Rattle.astrephon.specs.declared.Located.{Located}
-use Rattle.astrephon.specs.declared.Located.TheVariants as located
 use Rattle.astrephon.specs.Maps.{exact_of, next_of, inverse_of, exact_call, inverse_call}
 use Rattle.astrephon.specs.Moves.{elements_read}
-use Rattle.astrephon.proofs.Contracts.{Made, Exact, Next, Inverse}
+use Rattle.astrephon.proofs.Contracts.{Answer, Made, Exact, Next, Inverse}
 use Rattle.astrephon.proofs.Saying.{mapped_same, located_same}
 use Rattle.astrephon.proofs.Mappings.{exact_byte, inverse_own}
 use Rattle.astrephon.proofs.Trays.{elements_map}
@@ -75,19 +72,19 @@ module _ (xs : List ℕ) (e : ℕ) where
       sym (exact_byte (read_sheet xs) e S.0 x y (place_byte (read_sheet xs) e y x S.1 S.2) S.2)
 
   module _ (m m' : Made 1) where
-    pub exact_then_inverse : (x : FileOffset) (y : SubfileOffset) (r : Located) → Exact m xs e x.0 (mapped.At y) → Inverse m' xs e y.0 r → r ≡ located.At x
-    exact_then_inverse x y r p q = located_same r (located.At x) (q ∙ inverse_of_lem x.0 y.0 (sym p))
+    pub exact_then_inverse : (x : FileOffset) (y : SubfileOffset) (r : Answer FileOffset) → Exact m xs e x.0 (Ok y) → Inverse m' xs e y.0 r → r ≡ Ok x
+    exact_then_inverse x y r p q = located_same r (Ok x) (q ∙ inverse_of_lem x.0 y.0 (sym p))
 
-    pub inverse_then_exact : (y : SubfileOffset) (x : FileOffset) (r : Mapped) → Inverse m xs e y.0 (located.At x) → Exact m' xs e x.0 r → r ≡ mapped.At y
-    inverse_then_exact y x r p q = mapped_same r (mapped.At y) (q ∙ exact_of_lem y.0 x.0 (sym p))
+    pub inverse_then_exact : (y : SubfileOffset) (x : FileOffset) (r : Answer SubfileOffset) → Inverse m xs e y.0 (Ok x) → Exact m' xs e x.0 r → r ≡ Ok y
+    inverse_then_exact y x r p q = mapped_same r (Ok y) (q ∙ exact_of_lem y.0 x.0 (sym p))
 
     -- ---- NEXT MAPPING of x is the exact mapping of z, the element's first byte from x on
-    pub next_then_exact : (x z : ℕ) (y : SubfileOffset) (r : Mapped) → Next m xs e x (mapped.At y) → x ≤ z → z < LIMIT
-        → offsets_of (read_sheet xs) e z ≡ true → ((w : ℕ) → x ≤ w → w < z → offsets_of (read_sheet xs) e w ≡ false) → Exact m' xs e z r → r ≡ mapped.At y
+    pub next_then_exact : (x z : ℕ) (y : SubfileOffset) (r : Answer SubfileOffset) → Next m xs e x (Ok y) → x ≤ z → z < LIMIT
+        → offsets_of (read_sheet xs) e z ≡ true → ((w : ℕ) → x ≤ w → w < z → offsets_of (read_sheet xs) e w ≡ false) → Exact m' xs e z r → r ≡ Ok y
     next_then_exact x z y r p h near own none q =
         let S = next_says (read_sheet xs) e x y.0 (sym p) in
         let B = next_is (offsets_of (read_sheet xs) e) x z h own none in
-        mapped_same r (mapped.At y) (q ∙ sym (exact_byte (read_sheet xs) e S.0.element z y.0 (own, B.1 ∙ S.1) near))
+        mapped_same r (Ok y) (q ∙ sym (exact_byte (read_sheet xs) e S.0.element z y.0 (own, B.1 ∙ S.1) near))
 
 -- ---- THE RANKS of x in all elements of an accepted sheet sum to what lies between the displacement and x
 pub ranks_share : (xs : List ℕ) (x : ℕ) → let r = read_sheet xs in r.number ≡ 0 → ranks (elements_read r) x ≡ x - r.layout.displacement

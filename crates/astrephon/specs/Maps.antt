@@ -1,6 +1,6 @@
 -- THE CALLS that map offsets between the file and an element's subfile: `exact`, `next`, `inverse` and `span`. Assumes nothing: these are definitions.
 use Rattle.std.specs.Prelude.{not, List, [], ◌∷◌, ℕ, leb}
-use Rattle.sheets.specs.declared.Reading.{Reading}
+use Rattle.sheets.specs.Reading.{Reading}
 use Rattle.sheets.specs.Refusals.{◌when◌}
 use Rattle.sheets.specs.Sheet.{read_sheet}
 use Rattle.openings.specs.Said.{Said, done}

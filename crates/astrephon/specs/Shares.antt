@@ -1,7 +1,7 @@
 -- THE CALL `shared_runs`: what it says, and its list afterwards. Assumes nothing: these are definitions.
 use Rattle.std.specs.Prelude.{cond, List, [], ◌∷◌, ℕ, leb, length}
 use Rattle.counting.specs.Runs.{Run}
-use Rattle.sheets.specs.declared.Reading.{Reading}
+use Rattle.sheets.specs.Reading.{Reading}
 use Rattle.sheets.specs.Refusals.{NO_FLAG}
 use Rattle.sheets.specs.Sheet.{read_sheet}
 use Rattle.openings.specs.Said.{Said, done, refused, Outcome, writing}

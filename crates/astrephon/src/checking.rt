@@ -1,22 +1,19 @@
 // Checking one sheet.
 ghost use Rattle.std.specs.Prelude.{◌≡◌};
-ghost use Rattle.astrephon.specs.Says.{checked_says};
+ghost use Rattle.astrephon.specs.Says.{says, fact_values};
 ghost use Rattle.astrephon.specs.Check.{check_call};
 
-use crate::{Checked, Facts};
+use crate::{Facts, Refusal, Which};
 
 // Whether the bytes are the sheet of a layout: its facts, or the first refusal in 01's order.
-pub fn check(sheet: &[u8]) -> Checked
-    ensures { checked_says result ≡ check_call sheet.now }
+#[tactic(auto, unfolding(crate::specs::Check::check_of))]
+pub fn check(sheet: &[u8]) -> Result<Facts, Refusal>
+    ensures { says fact_values result ≡ check_call sheet.now }
 {
-    let reading = sheets::read(sheet);
-    if reading.number != 0 {
-        return Checked::Refused(openings::sheet_refusal(1, reading));
-    }
-    let layout = reading.layout;
-    Checked::Accepted(Facts {
-        displacement: layout.displacement,
-        size: reading.size,
-        elements: layout.elements as u32,
+    let accepted = openings::read(Which::First, sheet)?;
+    Ok(Facts {
+        displacement: accepted.layout.displacement,
+        size: accepted.size,
+        elements: accepted.layout.elements as u32,
     })
 }

@@ -18,73 +18,21 @@ pub use lines::LONGEST_LISTING;
 pub use listing::list_sheet;
 pub use mapping::{exact, inverse, next, span};
 pub use moving::{move_pair, move_tray};
-pub use openings::{BEFORE, BUFFER, ELEMENT, FAR, FOREIGN, LAST, LIMIT, ROOM, Refusal, WINDOW};
+pub use openings::{LAST, LIMIT, Refusal, Which};
 pub use sharing::shared_runs;
-pub use sheets::{
-    COUNT, DEPTH, HOLE, HOLE_OR_OVERLAP, KIND, LENGTH, MANY, NO_FLAG, ORDER, OVERLAP, SEGMENT,
-    SHORT, SPAN, TRAILING,
-};
+pub use sheets::{Fault, Refused};
 
 // What is known of an accepted sheet: the displacement, the pattern's size, and how many elements share it.
-#[derive(Clone, Copy)]
+#[derive(Clone, Copy, Debug, PartialEq, Eq)]
 pub struct Facts {
     pub displacement: u32,
     pub size: u32,
     pub elements: u32,
 }
 
-// The answer to a sheet.
+// An interval of a subfile: its first and its last offset, both included.
 #[derive(Clone, Copy)]
-pub enum Checked {
-    Accepted(Facts),
-    Refused(Refusal),
-}
-
-// The answer to exact and next mapping.
-#[derive(Clone, Copy)]
-pub enum Mapped {
-    At(SubfileOffset),
-    Refused(Refusal),
-}
-
-// The answer to inverse mapping.
-#[derive(Clone, Copy)]
-pub enum Located {
-    At(FileOffset),
-    Refused(Refusal),
-}
-
-// The answer to an interval's span: the first and the last subfile offset, both included.
-#[derive(Clone, Copy)]
-pub enum Spanned {
-    Range(SubfileOffset, SubfileOffset),
-    Refused(Refusal),
-}
-
-// The answer to shared runs: how many the list holds now.
-#[derive(Clone, Copy)]
-pub enum Listed {
-    Runs(u64),
-    Refused(Refusal),
-}
-
-// The answer to a packed length.
-#[derive(Clone, Copy)]
-pub enum Measured {
-    Bytes(u64),
-    Refused(Refusal),
-}
-
-// The answer to a sheet's listing: how many bytes of the buffer it is.
-#[derive(Clone, Copy)]
-pub enum Written {
-    Bytes(u64),
-    Refused(Refusal),
-}
-
-// The answer to a call that moves bytes.
-#[derive(Clone, Copy)]
-pub enum Carried {
-    Done,
-    Refused(Refusal),
+pub struct Interval {
+    pub first: SubfileOffset,
+    pub last: SubfileOffset,
 }

@@ -3,8 +3,6 @@
 // `astrephon::list_sheet` writes the text, and is proved to. No contract can say what is read or printed, so this file is proved safe, and proved to end.
 #![tactic(auto)]
 
-use astrephon::Written;
-
 const INPUT: i32 = 0;
 
 const OUTPUT: i32 = 1;
@@ -16,9 +14,7 @@ fn main() {
     let mut sheet = [0u8; MOST];
     let mut text = [0u8; astrephon::LONGEST_LISTING];
     let got = io::read_full(INPUT, &mut sheet);
-    let written = astrephon::list_sheet(&sheet[..got], &mut text);
-    if let Written::Bytes(n) = written {
-        let size = n as usize;
-        io::write_all(OUTPUT, &text[..size]);
+    if let Ok(n) = astrephon::list_sheet(&sheet[..got], &mut text) {
+        io::write_all(OUTPUT, &text[..n]);
     }
 }

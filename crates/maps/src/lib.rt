@@ -12,7 +12,7 @@ pub use mapping::{selection_of, subfile_of, tray_place};
 pub use subfile::Subfile;
 pub use window::Window;
 
-// A periodic selection: from `from` on, again every `period`, what the `tops` families at index `first` of a row select, `levels` levels deep at
+// A periodic selection: from `from` on, again every `period`, what the `tops` families at index `first` of a list select, `levels` levels deep at
 // most; `size` offsets of every period.
 #[derive(Clone, Copy, Debug, PartialEq, Eq)]
 pub struct Selection {

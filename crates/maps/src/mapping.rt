@@ -1,6 +1,6 @@
 // Mapping: the selection of an element of a layout, and the place of a subfile's byte in a tray.
 ghost use Rattle.std.specs.Prelude.{◌≡◌, ◌+◌, ◌-◌, ◌^◌, ◌≤◌, ◌<◌};
-ghost use Rattle.families.specs.Decoded.{row_of, LayoutOk};
+ghost use Rattle.families.specs.Decoded.{LayoutOk};
 ghost use Rattle.maps.specs.Selected.{PatternOk, selection_of};
 
 use crate::{Selection, Subfile};
@@ -15,14 +15,13 @@ pub fn tray_place(part: TrayPlace, first: SubfileOffset, y: SubfileOffset) -> Tr
 }
 
 // What element `element` of a layout selects of the file, where the layout's pattern has `size` offsets.
-pub fn selection_of(layout: Layout, size: u32, element: usize, numbers: &[u32]) -> Selection
-    requires row { numbers.now ≡ row_of layout.family }
-    requires ruled { LayoutOk 4 65535 layout }
-    requires there { element < layout.elements }
-    ensures { result ≡ selection_of layout size element }
+pub fn selection_of(layout: &Layout, size: u32, element: usize) -> Selection
+    requires ruled { LayoutOk 4 65535 layout.now }
+    requires there { element < layout.now.elements }
+    ensures { result ≡ selection_of layout.now size element }
 {
     let chosen = layout.element[element];
-    let selected = families::size(numbers, chosen.first, chosen.tops, 4) as u32;
+    let selected = layout.siblings(element, 4).size() as u32;
     Selection {
         from: layout.displacement,
         period: size,
@@ -34,15 +33,14 @@ pub fn selection_of(layout: Layout, size: u32, element: usize, numbers: &[u32]) 
 }
 
 // The subfile of element `element` of a layout whose pattern is shared out.
-pub fn subfile_of<'a>(layout: Layout, size: u32, element: usize, numbers: &'a [u32]) -> Subfile<'a>
-    requires row { numbers.now ≡ row_of layout.family }
-    requires shared { PatternOk layout size }
-    requires there { element < layout.elements }
-    ensures selection { result.selection ≡ selection_of layout size element }
-    ensures row { result.numbers.now ≡ row_of layout.family }
+pub fn subfile_of(layout: &Layout, size: u32, element: usize) -> Subfile<'_>
+    requires shared { PatternOk layout.now size }
+    requires there { element < layout.now.elements }
+    ensures selection { result.selection ≡ selection_of layout.now size element }
+    ensures families { result.families.now ≡ layout.now.family }
 {
     Subfile {
-        selection: selection_of(layout, size, element, numbers),
-        numbers,
+        selection: selection_of(layout, size, element),
+        families: &layout.family,
     }
 }

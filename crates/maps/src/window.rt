@@ -4,7 +4,7 @@ ghost use Rattle.maps.specs.Windows.{WindowOk};
 use families::FileOffset;
 
 // From `start` on, up to but not including `end`, which is the limit of file offsets at most.
-#[derive(Clone, Copy)]
+#[derive(Clone, Copy, Debug, PartialEq, Eq)]
 pub struct Window {
     pub start: FileOffset,
     pub end: FileOffset,

@@ -1,7 +1,7 @@
 pub mod Orders
 pub mod Verdicts
 pub mod Faults
+pub mod Readings
 pub mod Opens
-pub mod ElementOpens
 pub mod PairOpens
 pub mod Tabled

@@ -6,11 +6,11 @@ use Prim.Native.Nat.{ℕ}
 use lib.Dec.{eqb}
 use borrow.Author.Tests.{eq-eqb, ne_eqb, eqb-true}
 use Rattle.counting.proofs.Cases.{by_test}
-use Rattle.sheets.specs.declared.Reading.{Reading}
-use Rattle.sheets.specs.Refusals.{Test, ◌when◌, first_fault}
+use Rattle.sheets.specs.Reading.{Reading}
+use Rattle.sheets.specs.Refusals.{Test, ◌when◌, first_fault, NO_FLAG}
 use Rattle.openings.specs.declared.Refusal.{Refusal}
-use Rattle.openings.specs.Said.{Said, done, refused, refusal_says, afterwards}
-use Rattle.openings.specs.Refusals.{call_refusal, unless_sheet, unless_fault}
+use Rattle.openings.specs.Said.{Said, done, refused, afterwards}
+use Rattle.openings.specs.Refusals.{refusal_says, unless_sheet, unless_fault}
 
 -- ---- a single row of the table
 pub row_there : (number : ℕ) (there : Bool) → there ≡ true → number ≡ first_fault ((number when there) ∷ [])
@@ -21,16 +21,20 @@ pub row_absent : (number : ℕ) (there : Bool) → there ≡ false → 0 ≡ fir
 unfolding first_fault
 row_absent number there e = rw e refl
 
--- ---- what refuses, n being the number that the code found, and that the call goes on where nothing does
+-- ---- what refuses, n being the number of the first fault, and that the call goes on where there is none
 module _ (next : Said) where
   pub sheet_passed : (k : ℕ) (r : Reading) → r.number ≡ 0 → next ≡ unless_sheet k r next
   unfolding unless_sheet
   sheet_passed k r z = rw (eq-eqb r.number 0 z) refl
 
+  pub sheet_refused : (k : ℕ) (r : Reading) → (r.number ≡ 0 → ⊥) → refused r.number k r.place r.flag ≡ unless_sheet k r next
+  unfolding unless_sheet
+  sheet_refused k r d = rw (ne_eqb r.number 0 d) refl
+
   module _ (tests : List Test) (n : ℕ) (e : n ≡ first_fault tests) where
-    pub fault_refused : (f : Refusal) → f ≡ call_refusal n 0 → (n ≡ 0 → ⊥) → refusal_says f ≡ unless_fault tests next
+    pub fault_refused : (n ≡ 0 → ⊥) → refused n 0 0 NO_FLAG ≡ unless_fault tests next
     unfolding unless_fault
-    fault_refused f q d = ap refusal_says q ∙ rw (← e, ne_eqb n 0 d) refl
+    fault_refused d = rw (← e, ne_eqb n 0 d) refl
 
     pub fault_passed : n ≡ 0 → next ≡ unless_fault tests next
     unfolding unless_fault

@@ -1,40 +1,52 @@
--- The verdict of a call's checks: a refusal, or none, after which the call goes on. Assumes nothing.
-use mathlib.Core.Path.{◌≡◌, ap, ◌∙◌}
-use mathlib.Core.List.{List}
+-- The verdict of a call's checks: they refuse, or the call goes on. Assumes nothing.
+use mathlib.Core.Path.{◌≡◌, refl, sym, ◌∙◌}
+use mathlib.Core.List.{List, [], ◌∷◌, ◌++◌}
+use mathlib.Core.Bool.{true, false}
 use Prim.Native.Nat.{ℕ}
-use borrow.Author.Tests.{eq-eqb, ne_eqb}
-use Rattle.sheets.specs.declared.Reading.{Reading}
-use Rattle.sheets.specs.Refusals.{Test, first_fault}
+use lib.Dec.{eqb}
+use borrow.Author.Tests.{eqb-true, eqb-false}
+use Rattle.std.specs.Prelude.{Result, Ok, Err}
+use Rattle.counting.proofs.Cases.{by_test}
+use Rattle.sheets.specs.Refusals.{Test, ◌when◌, first_fault}
 use Rattle.openings.specs.declared.Refusal.{Refusal}
-use Rattle.openings.specs.Said.{Said, refusal_says, goes_on}
-use Rattle.openings.specs.Refusals.{sheet_refusal, call_refusal, unless_sheet, unless_fault}
-use Rattle.openings.specs.Openings.{Verdict}
+use Rattle.openings.specs.Said.{Said, done}
+use Rattle.openings.specs.Refusals.{unless_fault}
+use Rattle.openings.specs.Openings.{Passes, Refuses, Verdict}
+use Rattle.openings.proofs.Orders.{fault_refused, fault_passed, fault_through, never_both}
 
--- ---- of one check
-pub sheet_verdict : (k : ℕ) (r : Reading) (f : Refusal) → f ≡ sheet_refusal k r → Verdict (unless_sheet k r) f
-unfolding unless_sheet
-sheet_verdict k r f q = record { says = λ next. ap (λ (g : Refusal). goes_on g next) q }
+-- ---- one check after the other: the first refuses, or it passes and the next one decides
+module _ (checks more : Said → Said) where
+  pub refused_first : (f : Refusal) → Refuses checks f → Refuses (λ next. checks (more next)) f
+  refused_first f R next = R (more next)
 
-pub fault_verdict : (tests : List Test) (n : ℕ) → n ≡ first_fault tests → (f : Refusal) → f ≡ call_refusal n 0 → Verdict (unless_fault tests) f
-unfolding unless_fault
-fault_verdict tests n e f q = record { says = λ next. ap (λ (g : Refusal). goes_on g next) (q ∙ ap (λ (m : ℕ). call_refusal m 0) e) }
+  module _ (P : Passes checks) where
+    pub passed_both : Passes more → Passes (λ next. checks (more next))
+    passed_both Q next = Q next ∙ P (more next)
 
--- no refusal, of checks that pass
-pub no_verdict : (checks : Said → Said) (f : Refusal) → f.number ≡ 0 → ((next : Said) → next ≡ checks next) → Verdict checks f
-no_verdict checks f z pass = record { says = λ next. rw (eq-eqb f.number 0 z) (pass next) }
+    pub refused_then : (f : Refusal) → Refuses more f → Refuses (λ next. checks (more next)) f
+    refused_then f R next = R next ∙ P (more next)
 
--- ---- what it says of the call
-module _ {checks : Said → Said} {f : Refusal} (given : Verdict checks f) where
-  pub verdict_refused : (f.number ≡ 0 → ⊥) → (next : Said) → refusal_says f ≡ checks next
-  verdict_refused d next = rw (ne_eqb f.number 0 d) at (given.says next)
+-- checks that say the same have the same verdict
+pub verdict_same : {A : Type 0} (checks more : Said → Said) → ((next : Said) → checks next ≡ more next) → (answer : Result A Refusal) → Verdict checks answer → Verdict more answer
+verdict_same checks more same (Ok given) P = λ next. P next ∙ same next
+verdict_same checks more same (Err f) R = λ next. R next ∙ same next
 
-  pub verdict_none : f.number ≡ 0 → (next : Said) → next ≡ checks next
-  verdict_none z next = rw (eq-eqb f.number 0 z) at (given.says next)
+-- ---- tests that pass have no fault
+pub passes_none : (tests : List Test) → Passes (unless_fault tests) → first_fault tests ≡ 0
+passes_none tests P = (fault_through tests (sym (P (done [])))).0
 
-  -- ---- one check more: a refusal stands, and else the verdict is that of the last check
-  module _ (more : Said → Said) where
-    pub still : (f.number ≡ 0 → ⊥) → Verdict (λ next. checks (more next)) f
-    still d = record { says = λ next. rw (ne_eqb f.number 0 d) (verdict_refused d (more next)) }
+-- ---- of two lists of tests, a fault of the first
+fault_front : (ts us : List Test) (n : ℕ) → n ≡ first_fault ts → (n ≡ 0 → ⊥) → n ≡ first_fault (ts ++ us)
+unfolding first_fault
+fault_front [] us n e d = absurd (d e)
+fault_front ((m when true) ∷ ts) us n e d = e
+fault_front ((m when false) ∷ ts) us n e d = fault_front ts us n e d
 
-    pub after : f.number ≡ 0 → {g : Refusal} → Verdict more g → Verdict (λ next. checks (more next)) g
-    after z last = record { says = λ next. last.says next ∙ verdict_none z (more next) }
+pub refused_front : (ts us : List Test) (f : Refusal) → Refuses (unless_fault ts) f → Refuses (unless_fault (ts ++ us)) f
+refused_front ts us f R next =
+    let n = first_fault ts in
+    by_test (eqb n 0)
+    (λ z. absurd (never_both (R (done []) ∙ sym (fault_passed (done []) ts n refl (eqb-true n 0 z)))))
+    (λ d.
+    let there = eqb-false n 0 d in
+    R next ∙ sym (fault_refused next ts n refl there) ∙ fault_refused next (ts ++ us) n (fault_front ts us n refl there) there)

@@ -1,39 +1,55 @@
--- How the calls open an element, an element of each of two sheets, or two sheets: the first refusal, or what is opened. Assumes nothing: these are definitions.
-use Rattle.std.specs.Prelude.{◌≡◌, List, ℕ}
+-- How the calls open an element, an element of each of two sheets, or two sheets: what is opened, or the first refusal. Assumes nothing: these are definitions.
+use Rattle.std.specs.Prelude.{◌≡◌, Result, Ok, Err, ℕ}
 use Rattle.families.specs.Decoded.{row_of}
-use Rattle.sheets.specs.declared.Reading.{Reading}
-use Rattle.maps.specs.declared.Selection.{Selection}
+use Rattle.sheets.specs.Reading.{Reading}
+use Rattle.sheets.specs.Answered.{reading_of}
+use Rattle.sheets.specs.declared.Sheet.{Sheet}
 use Rattle.maps.specs.Selected.{selection_of}
 use Rattle.openings.specs.declared.Refusal.{Refusal}
 use Rattle.openings.specs.declared.Opening.{Opening}
 use Rattle.openings.specs.declared.Pair.{Pair}
 use Rattle.openings.specs.declared.Sheets.{Sheets}
-use Rattle.openings.specs.Said.{Said, goes_on}
-use Rattle.openings.specs.Refusals.{unless_sheets}
+use Rattle.openings.specs.Said.{Said}
+use Rattle.openings.specs.Refusals.{refusal_says, unless_sheet, unless_sheets}
 use Rattle.openings.specs.Offsets.{unless_windows}
 
--- THE VERDICT of a call's checks is f, a refusal or none: whatever the call would say next, it says that or the refusal
-pub record Verdict (checks : Said → Said) (f : Refusal) : Type 0 where
-  pub says : (next : Said) → goes_on f next ≡ checks next
+-- A CALL'S CHECKS pass: it says what it would say next; or they refuse with f: whatever it would say next, it says that
+abbrev pub Passes : (checks : Said → Said) → Type 0
+Passes checks = (next : Said) → next ≡ checks next
+
+abbrev pub Refuses : (checks : Said → Said) → Refusal → Type 0
+Refuses checks f = (next : Said) → refusal_says f ≡ checks next
+
+-- THE VERDICT of the checks, of an answer whose value is left open
+abbrev pub Verdict : {A : Type 0} → (checks : Said → Said) → Result A Refusal → Type 0
+Verdict checks (Ok given) = Passes checks
+Verdict checks (Err f) = Refuses checks f
+
+-- the reading that an accepted sheet is
+abbrev pub accepted_as : Sheet → Reading
+accepted_as s = reading_of (Ok s)
+
+-- the k-th sheet of a call is read
+abbrev pub Reads : (k : ℕ) → (r : Reading) → Result Sheet Refusal → Type 0
+Reads k r (Ok s) = Passes (unless_sheet k r) × (accepted_as s ≡ r)
+Reads k r (Err f) = Refuses (unless_sheet k r) f
 
 -- what element e selects, and the numbers of the sheet's families in a row
-pub record Chosen (r : Reading) (e : ℕ) (s : Selection) (row : List ℕ) : Type 0 where
-  pub selection : s ≡ selection_of r.layout r.size e
-  pub laid : row ≡ row_of r.layout.family
+pub record Chosen (r : Reading) (e : ℕ) (o : Opening) : Type 0 where
+  pub selection : o.selection ≡ selection_of r.layout r.size e
+  pub laid : o.numbers ≡ row_of r.layout.family
 
 -- AN ELEMENT is opened after some checks
-pub record Opens (checks : Said → Said) (r : Reading) (e : ℕ) (o : Opening) (row : List ℕ) : Type 0 where
-  pub verdict : Verdict checks o.refusal
-  pub chosen : o.refusal.number ≡ 0 → Chosen r e o.selection row
+abbrev pub Opens : (checks : Said → Said) → (r : Reading) → (e : ℕ) → Result Opening Refusal → Type 0
+Opens checks r e (Ok o) = Passes checks × Chosen r e o
+Opens checks r e (Err f) = Refuses checks f
 
 -- ONE OF EACH SHEET, for a window
-pub record OpensPair (r1 r2 : Reading) (i j a b : ℕ) (o : Pair) (row1 row2 : List ℕ) : Type 0 where
-  pub verdict : Verdict (unless_windows r1 r2 i j a b) o.refusal
-  pub one : o.refusal.number ≡ 0 → Chosen r1 i o.one row1
-  pub two : o.refusal.number ≡ 0 → Chosen r2 j o.two row2
+abbrev pub OpensPair : (r1 r2 : Reading) → (i j a b : ℕ) → Result Pair Refusal → Type 0
+OpensPair r1 r2 i j a b (Ok o) = Passes (unless_windows r1 r2 i j a b) × (Chosen r1 i o.one × Chosen r2 j o.two)
+OpensPair r1 r2 i j a b (Err f) = Refuses (unless_windows r1 r2 i j a b) f
 
 -- TWO SHEETS
-pub record OpensSheets (r1 r2 : Reading) (o : Sheets) : Type 0 where
-  pub verdict : Verdict (unless_sheets r1 r2) o.refusal
-  pub one : o.one ≡ r1
-  pub two : o.two ≡ r2
+abbrev pub OpensSheets : (r1 r2 : Reading) → Result Sheets Refusal → Type 0
+OpensSheets r1 r2 (Ok o) = Passes (unless_sheets r1 r2) × ((accepted_as o.one ≡ r1) × (accepted_as o.two ≡ r2))
+OpensSheets r1 r2 (Err f) = Refuses (unless_sheets r1 r2) f

@@ -1,18 +1,10 @@
 -- WHAT A CALL SAYS, in 01's numbers, whatever type its answer has. Assumes nothing: these are definitions.
-use Rattle.std.specs.Prelude.{cond, List, ℕ, eqb}
-use Rattle.openings.specs.declared.Refusal.{Refusal}
+use Rattle.std.specs.Prelude.{List, ℕ}
 
 -- it did its work and gives these values, or it is refused
 pub data Said : Type 0 where
   done : (values : List ℕ) → Said
   refused : (number sheet place flag : ℕ) → Said
-
-abbrev pub refusal_says : Refusal → Said
-refusal_says f = refused f.number f.sheet f.place f.flag
-
--- the code's refusal of number 0 is none: then the call goes on, and says `next`
-abbrev pub goes_on : Refusal → (next : Said) → Said
-goes_on f next = cond (eqb f.number 0) next (refusal_says f)
 
 -- A CALL THAT WRITES: what it says, and what the buffer holds afterwards that it was lent to write
 pub record Outcome : Type 0 where

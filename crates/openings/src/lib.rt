@@ -1,71 +1,68 @@
 // Openings: how the calls begin. A sheet is read, an element or two sheets are opened, and indexes, offsets, windows and the lengths of buffers are checked:
 // what is opened, or the first refusal in 01's order.
 //
-// `refusals` makes a refusal; `opened` opens an element, `paired` one of each of two sheets, or both sheets; `ranges` gives the number that refuses an index,
-// an offset, a window or a length, or 0.
+// `refusals` has the numbers that a refusal tells; `reading` reads a sheet; `opened` opens an element, `paired` one of each of two sheets, or both sheets;
+// `ranges` checks an index, an offset, a window or a length.
 #![tactic(auto)]
 
 use maps::Selection;
-use sheets::Reading;
+use sheets::{Refused, Sheet};
 
 mod opened;
 mod paired;
 mod ranges;
+mod reading;
 mod refusals;
 
-pub use opened::{count, open_buffers, open_element, open_window};
+pub use opened::{open_buffers, open_element, open_offset, open_window};
 pub use paired::{open_pair, open_sheets};
-pub use ranges::{buffer_fault, larger, offset_fault, pair_fault, range_fault, trays_fault};
-pub use refusals::{call_refusal, sheet_refusal};
-
-// The numbers of 01's table that a call can be refused with though its sheets are accepted.
-pub const ELEMENT: u8 = 12;
-
-pub const BEFORE: u8 = 13;
-
-pub const FAR: u8 = 14;
-
-pub const WINDOW: u8 = 15;
-
-pub const FOREIGN: u8 = 16;
-
-pub const BUFFER: u8 = 17;
-
-pub const ROOM: u8 = 18;
+pub use ranges::{
+    check_buffers, check_element, check_offset, check_pair, check_range, check_trays,
+};
+pub use reading::read;
 
 // File offsets are below the limit. A window may end there; an offset is the last one at most.
 pub const LIMIT: u64 = 1 << 40;
 
 pub const LAST: u64 = LIMIT - 1;
 
-// A refusal: its number in 01's table, the sheet at fault (1 or 2, and 0 where it is none), the place, and the flag of number 11.
-#[derive(Clone, Copy)]
-pub struct Refusal {
-    pub number: u8,
-    pub sheet: u8,
-    pub place: u64,
-    pub flag: u8,
+// Which of a call's sheets is at fault. A call on one sheet has the first alone.
+#[derive(Clone, Copy, Debug, PartialEq, Eq)]
+pub enum Which {
+    First,
+    Second,
 }
 
-// What the element selects of the file. A refusal with number 0 is none, and with any other there is no selection.
+// Why a call is refused: by 01's table a sheet, or what else it was given. `Room` tells how many runs there are.
+#[derive(Clone, Copy, Debug, PartialEq, Eq)]
+pub enum Refusal {
+    Sheet(Which, Refused),
+    Element,
+    Before,
+    Far,
+    Window,
+    Foreign,
+    Buffer,
+    Room(u64),
+}
+
+// What an element selects of the file: its selection, over the numbers of its sheet's families in a row.
 #[derive(Clone, Copy)]
 pub struct Opening {
-    pub refusal: Refusal,
+    pub numbers: [u32; families::ROW],
     pub selection: Selection,
 }
 
-// What an element of each of two sheets selects; the refusal as above.
+// What an element of each of two sheets selects.
 #[derive(Clone, Copy)]
 pub struct Pair {
-    pub refusal: Refusal,
-    pub one: Selection,
-    pub two: Selection,
+    pub one: Opening,
+    pub two: Opening,
 }
 
-// Two sheets, with the refusal of the first that is refused. Number 0 is none.
+// Two sheets, both accepted.
 #[derive(Clone, Copy)]
 pub struct Sheets {
-    pub refusal: Refusal,
-    pub one: Reading,
-    pub two: Reading,
+    pub one: Sheet,
+    pub two: Sheet,
 }

@@ -1,35 +1,52 @@
 // Opening two sheets, and an element of each of them for a window.
 ghost use Rattle.std.specs.Prelude.{◌≡◌};
-ghost use Rattle.families.specs.Decoded.{empty_row};
 ghost use Rattle.sheets.specs.Sheet.{read_sheet};
-ghost use Rattle.openings.specs.Openings.{OpensPair, OpensSheets};
+ghost use Rattle.openings.specs.Refusals.{unless_fault};
+ghost use Rattle.openings.specs.Offsets.{pair_tests, both_from};
+ghost use Rattle.openings.specs.Buffers.{unless_trays};
+ghost use Rattle.openings.specs.Openings.{accepted_as, OpensPair, OpensSheets, Verdict};
 
-use crate::{Pair, Refusal, Sheets, opened, ranges, refusals};
+use crate::{Pair, Refusal, Sheets, Which, opened, ranges, reading};
 use families::FileOffset;
 
 // Opens two sheets.
-pub fn open_sheets(sheet1: &[u8], sheet2: &[u8]) -> Sheets
+pub fn open_sheets(sheet1: &[u8], sheet2: &[u8]) -> Result<Sheets, Refusal>
     ensures { OpensSheets (read_sheet sheet1.now) (read_sheet sheet2.now) result }
 {
-    let one = sheets::read(sheet1);
-    let two = sheets::read(sheet2);
-    let mut refusal = refusals::call_refusal(0, 0);
-    if one.number != 0 {
-        refusal = refusals::sheet_refusal(1, one);
-    } else if two.number != 0 {
-        refusal = refusals::sheet_refusal(2, two);
-    }
-    Sheets { refusal, one, two }
+    let one = reading::read(Which::First, sheet1)?;
+    let two = reading::read(Which::Second, sheet2)?;
+    Ok(Sheets { one, two })
 }
 
-// What is opened where something is refused.
-fn closed(refusal: Refusal) -> Pair
-    ensures { result.refusal ≡ refusal }
-{
-    Pair {
-        refusal,
-        one: opened::no_selection(),
-        two: opened::no_selection(),
+impl Sheets {
+    // Checks the indexes of an element of each.
+    pub fn check_pair(&self, i: u64, j: u64) -> Result<(), Refusal>
+        ensures { let m = self.now.one.layout.elements in
+            Verdict (unless_fault (pair_tests m i self.now.two.layout.elements j)) result }
+    {
+        let m = self.one.layout.elements as u64;
+        ranges::check_pair(m, i, self.two.layout.elements as u64, j)
+    }
+
+    // Where both have started: the larger displacement.
+    pub fn displacement(&self) -> u32
+        ensures { result ≡ both_from (accepted_as self.now.one) (accepted_as self.now.two) }
+    {
+        let one = self.one.layout.displacement;
+        one.max(self.two.layout.displacement)
+    }
+
+    // Checks a window of both, and the lengths of two trays of it.
+    pub fn check_trays(
+        &self,
+        a: FileOffset,
+        b: FileOffset,
+        one: usize,
+        two: usize,
+    ) -> Result<(), Refusal>
+        ensures { Verdict (unless_trays (accepted_as self.now.one) (accepted_as self.now.two) a.0 b.0 one two) result }
+    {
+        ranges::check_trays(self.displacement(), a, b, one as u64, two as u64)
     }
 }
 
@@ -41,32 +58,15 @@ pub fn open_pair(
     j: u64,
     a: FileOffset,
     b: FileOffset,
-    numbers1: &mut [u32],
-    numbers2: &mut [u32],
-) -> Pair
-    requires fact_1 { numbers1.old ≡ empty_row }
-    requires fact_2 { numbers2.old ≡ empty_row }
+) -> Result<Pair, Refusal>
     ensures { let one = read_sheet sheet1.now in let two = read_sheet sheet2.now in
-        OpensPair one two i j a.0 b.0 result numbers1.new numbers2.new }
+        OpensPair one two i j a.0 b.0 result }
 {
-    let both = open_sheets(sheet1, sheet2);
-    let refusal = both.refusal;
-    if refusal.number != 0 {
-        return closed(refusal);
-    }
-    let one = both.one.layout;
-    let two = both.two.layout;
-    let absent = ranges::pair_fault(one.elements as u64, i, two.elements as u64, j);
-    if absent != 0 {
-        return closed(refusals::call_refusal(absent, 0));
-    }
-    let s1 = opened::choose(one, both.one.size, i as usize, numbers1);
-    let s2 = opened::choose(two, both.two.size, j as usize, numbers2);
-    let from = ranges::larger(one.displacement, two.displacement);
-    let fault = ranges::range_fault(crate::LIMIT, from, a, b);
-    Pair {
-        refusal: refusals::call_refusal(fault, 0),
-        one: s1,
-        two: s2,
-    }
+    let both = open_sheets(sheet1, sheet2)?;
+    both.check_pair(i, j)?;
+    ranges::check_range(crate::LIMIT, both.displacement(), a, b)?;
+    Ok(Pair {
+        one: opened::choose(both.one, i as usize),
+        two: opened::choose(both.two, j as usize),
+    })
 }

@@ -1,83 +1,93 @@
-// What is checked of indexes, offsets and lengths: the number that refuses them, or 0.
-ghost use Rattle.std.specs.Prelude.{◌≡◌, max};
-ghost use Rattle.sheets.specs.Refusals.{first_fault};
-ghost use Rattle.openings.specs.Offsets.{pair_tests, offset_tests, range_tests};
+// What is checked of indexes, offsets and lengths.
+ghost use Rattle.openings.specs.Refusals.{unless_fault};
+ghost use Rattle.openings.specs.Offsets.{element_test, pair_tests, offset_tests, range_tests};
 ghost use Rattle.openings.specs.Buffers.{buffer_tests, tray_tests};
+ghost use Rattle.openings.specs.Openings.{Verdict};
+ghost use Rattle.std.specs.Prelude.{[], ◌∷◌};
 
+use crate::Refusal;
 use families::FileOffset;
 
-// Of the indexes of a pair, where the sheets have m and n elements.
-pub fn pair_fault(m: u64, i: u64, n: u64, j: u64) -> u8
-    ensures { result ≡ first_fault (pair_tests m i n j) }
+// Of the index of an element, where the sheet has n.
+#[tactic(auto, using(crate::proofs::Faults::element_none, crate::proofs::Faults::element_there))]
+pub fn check_element(n: u64, element: u64) -> Result<(), Refusal>
+    ensures { Verdict (unless_fault (element_test n element ∷ [])) result }
 {
-    if m <= i {
-        return crate::ELEMENT;
+    if n <= element {
+        Err(Refusal::Element)
+    } else {
+        Ok(())
     }
-    if n <= j {
-        return crate::ELEMENT;
-    }
-    0
+}
+
+// Of the indexes of a pair, where the sheets have m and n elements.
+pub fn check_pair(m: u64, i: u64, n: u64, j: u64) -> Result<(), Refusal>
+    ensures { Verdict (unless_fault (pair_tests m i n j)) result }
+{
+    check_element(m, i)?;
+    check_element(n, j)
 }
 
 // Of one file offset, where the displacement is `from`.
-#[tactic(auto, using(crate::proofs::Faults::offset_before, crate::proofs::Faults::offset_far, crate::proofs::Faults::offset_fine))]
-pub fn offset_fault(from: u32, x: FileOffset) -> u8
-    ensures { result ≡ first_fault (offset_tests from x.0) }
+#[tactic(auto, using(crate::proofs::Faults::offset_before, crate::proofs::Faults::offset_far, crate::proofs::Faults::offset_within))]
+pub fn check_offset(from: u32, x: FileOffset) -> Result<(), Refusal>
+    ensures { Verdict (unless_fault (offset_tests from x.0)) result }
 {
-    if x.0 < from as u64 {
-        return crate::BEFORE;
+    if x.0 < u64::from(from) {
+        return Err(Refusal::Before);
     }
     if crate::LIMIT <= x.0 {
-        return crate::FAR;
+        return Err(Refusal::Far);
     }
-    0
+    Ok(())
 }
 
 // Of an interval or a window from a to b, where b may be `most`.
-#[tactic(auto, using(crate::proofs::Faults::range_back, crate::proofs::Faults::range_before, crate::proofs::Faults::range_far, crate::proofs::Faults::range_fine))]
-pub fn range_fault(most: u64, from: u32, a: FileOffset, b: FileOffset) -> u8
-    ensures { result ≡ first_fault (range_tests most from a.0 b.0) }
+#[tactic(auto, using(crate::proofs::Faults::range_back, crate::proofs::Faults::range_before, crate::proofs::Faults::range_far, crate::proofs::Faults::range_within))]
+pub fn check_range(most: u64, from: u32, a: FileOffset, b: FileOffset) -> Result<(), Refusal>
+    ensures { Verdict (unless_fault (range_tests most from a.0 b.0)) result }
 {
     let start = a.0;
     let end = b.0;
     if end < start {
-        return crate::WINDOW;
+        return Err(Refusal::Window);
     }
-    if start < from as u64 {
-        return crate::BEFORE;
+    if start < u64::from(from) {
+        return Err(Refusal::Before);
     }
-    if most < end { crate::FAR } else { 0 }
+    if most < end {
+        Err(Refusal::Far)
+    } else {
+        Ok(())
+    }
 }
 
 // Of the lengths of two buffers, each with the one that is due.
-#[tactic(auto, using(crate::proofs::Faults::buffer_first, crate::proofs::Faults::buffer_second, crate::proofs::Faults::buffer_fine))]
-pub fn buffer_fault(one: u64, due1: u64, two: u64, due2: u64) -> u8
-    ensures { result ≡ first_fault (buffer_tests one due1 two due2) }
+#[tactic(auto, using(crate::proofs::Faults::buffer_first, crate::proofs::Faults::buffer_second, crate::proofs::Faults::buffer_long))]
+pub fn check_buffers(one: u64, due1: u64, two: u64, due2: u64) -> Result<(), Refusal>
+    ensures { Verdict (unless_fault (buffer_tests one due1 two due2)) result }
 {
     if one != due1 {
-        return crate::BUFFER;
+        return Err(Refusal::Buffer);
     }
     if two != due2 {
-        return crate::BUFFER;
+        Err(Refusal::Buffer)
+    } else {
+        Ok(())
     }
-    0
 }
 
 // Of a window and the lengths of two trays of it.
-pub fn trays_fault(from: u32, a: FileOffset, b: FileOffset, one: u64, two: u64) -> u8
-    ensures { result ≡ first_fault (tray_tests from a.0 b.0 one two) }
+pub fn check_trays(
+    from: u32,
+    a: FileOffset,
+    b: FileOffset,
+    one: u64,
+    two: u64,
+) -> Result<(), Refusal>
+    ensures { Verdict (unless_fault (tray_tests from a.0 b.0 one two)) result }
 {
-    let fault = range_fault(crate::LIMIT, from, a, b);
-    if fault != 0 {
-        return fault;
-    }
+    check_range(crate::LIMIT, from, a, b)?;
     let bytes = b.0 - a.0;
-    buffer_fault(one, bytes, two, bytes)
-}
-
-// The larger of two displacements.
-pub fn larger(d: u32, e: u32) -> u32
-    ensures { result ≡ max d e }
-{
-    if d < e { e } else { d }
+    check_buffers(one, bytes, two, bytes)
 }

@@ -1,30 +1,89 @@
-// Refusals: of a sheet, and of what else a call was given.
+// What a refusal tells: its number in 01's table, the sheet at fault (1 or 2, and 0 where it is none), the place, and the flag of number 11.
 ghost use Rattle.std.specs.Prelude.{◌≡◌};
-ghost use Rattle.openings.specs.Refusals.{sheet_refusal, call_refusal};
+ghost use Rattle.openings.specs.Refusals.{sheet_number, told};
 
-use crate::Refusal;
-use sheets::Reading;
+use crate::{Refusal, Which};
+use std::error::Error;
+use std::fmt;
 
-// The refusal of the k-th sheet of a call, as its reading says.
-pub fn sheet_refusal(k: u8, reading: Reading) -> Refusal
-    ensures { result ≡ sheet_refusal k reading }
-{
-    Refusal {
-        number: reading.number,
-        sheet: k,
-        place: reading.place,
-        flag: reading.flag,
+impl Which {
+    pub fn number(&self) -> u8
+        ensures { result ≡ sheet_number self.now }
+    {
+        match self {
+            Which::First => 1,
+            Which::Second => 2,
+        }
     }
 }
 
-// A refusal that blames no sheet. Number 0 is none.
-pub fn call_refusal(number: u8, place: u64) -> Refusal
-    ensures { result ≡ call_refusal number place }
-{
-    Refusal {
-        number,
-        sheet: 0,
-        place,
-        flag: sheets::NO_FLAG,
+impl Refusal {
+    pub fn number(&self) -> u8
+        ensures { result ≡ (told self.now).number }
+    {
+        match self {
+            Refusal::Sheet(_, refused) => refused.fault.number(),
+            Refusal::Element => 12,
+            Refusal::Before => 13,
+            Refusal::Far => 14,
+            Refusal::Window => 15,
+            Refusal::Foreign => 16,
+            Refusal::Buffer => 17,
+            Refusal::Room(_) => 18,
+        }
+    }
+
+    pub fn sheet(&self) -> u8
+        ensures { result ≡ (told self.now).sheet }
+    {
+        match self {
+            Refusal::Sheet(which, _) => which.number(),
+            _ => 0,
+        }
+    }
+
+    pub fn place(&self) -> u64
+        ensures { result ≡ (told self.now).place }
+    {
+        match self {
+            Refusal::Sheet(_, refused) => refused.place,
+            Refusal::Room(runs) => *runs,
+            _ => 0,
+        }
+    }
+
+    pub fn flag(&self) -> u8
+        ensures { result ≡ (told self.now).flag }
+    {
+        match self {
+            Refusal::Sheet(_, refused) => refused.fault.flag(),
+            _ => 0,
+        }
     }
 }
+
+impl fmt::Display for Which {
+    fn fmt<W: fmt::Write>(&self, f: &mut fmt::Formatter<W>) -> fmt::Result {
+        f.write_str(match self {
+            Which::First => "the first sheet",
+            Which::Second => "the second sheet",
+        })
+    }
+}
+
+impl fmt::Display for Refusal {
+    fn fmt<W: fmt::Write>(&self, f: &mut fmt::Formatter<W>) -> fmt::Result {
+        match self {
+            Refusal::Sheet(which, refused) => write!(f, "{which}: {refused}"),
+            Refusal::Element => f.write_str("the sheet has no such element"),
+            Refusal::Before => f.write_str("it is before the displacement"),
+            Refusal::Far => f.write_str("it is past the greatest file offset"),
+            Refusal::Window => f.write_str("it ends before it starts"),
+            Refusal::Foreign => f.write_str("the offset belongs to another element"),
+            Refusal::Buffer => f.write_str("a buffer does not have the length that is asked for"),
+            Refusal::Room(runs) => write!(f, "the list has no room for {runs} runs"),
+        }
+    }
+}
+
+impl Error for Refusal {}

@@ -32,10 +32,10 @@ pub fn list_by_tables<const N: usize>(
     window: Window,
     list: &mut [u64],
 ) -> u64
-    requires one { SideOk one.now.selection one.now.numbers.now N window.start.0 }
-    requires two { SideOk two.now.selection two.now.numbers.now N window.start.0 }
+    requires one { SideOk one.now.selection one.now.families.now N window.start.0 }
+    requires two { SideOk two.now.selection two.now.families.now N window.start.0 }
     requires size { N < 2 ^ 62 }
-    ensures { let p = belongs one.now.selection one.now.numbers.now in let q = belongs two.now.selection two.now.numbers.now in
+    ensures { let p = belongs one.now.selection one.now.families.now in let q = belongs two.now.selection two.now.families.now in
         Listed p q window.start.0 window.end.0 list.old list.new result }
 {
     let mut table1 = [0u8; N];
@@ -65,9 +65,9 @@ pub fn list_by_tables<const N: usize>(
 
 // Lists the runs that two selections share in a window, four slots a run, where the list holds them all; says how many there are.
 pub fn list_shared(one: &Subfile, two: &Subfile, window: Window, list: &mut [u64]) -> u64
-    requires one { SideOk one.now.selection one.now.numbers.now 65536 window.start.0 }
-    requires two { SideOk two.now.selection two.now.numbers.now 65536 window.start.0 }
-    ensures { let p = belongs one.now.selection one.now.numbers.now in let q = belongs two.now.selection two.now.numbers.now in
+    requires one { SideOk one.now.selection one.now.families.now 65536 window.start.0 }
+    requires two { SideOk two.now.selection two.now.families.now 65536 window.start.0 }
+    ensures { let p = belongs one.now.selection one.now.families.now in let q = belongs two.now.selection two.now.families.now in
         Listed p q window.start.0 window.end.0 list.old list.new result }
 {
     if tables::fits(one, 2048) && tables::fits(two, 2048) {

@@ -12,26 +12,24 @@ use maps::Subfile;
 
 // Whether a table of `room` places has one for every offset of the families and every place of a period.
 pub fn fits(subfile: &Subfile, room: u64) -> bool
-    ensures { result ≡ (leb (end_of (families_of subfile.now.selection subfile.now.numbers.now)) room && leb subfile.now.selection.period room) }
+    ensures { result ≡ (leb (end_of (families_of subfile.now.selection subfile.now.families.now)) room && leb subfile.now.selection.period room) }
 {
-    let s = subfile.selection;
-    families::end(subfile.numbers, s.first, s.tops, s.levels) <= room && u64::from(s.period) <= room
+    subfile.siblings().end() <= room && u64::from(subfile.selection.period) <= room
 }
 
 // Writes 1 to every place of a table of zeros that the selection's families select.
 pub fn fill(subfile: &Subfile, table: &mut [u8])
-    requires fits { FitsTable subfile.now.selection subfile.now.numbers.now (length table.old) }
+    requires fits { FitsTable subfile.now.selection subfile.now.families.now (length table.old) }
     requires zeros { table.old ≡ replicate (length table.old) 0 }
-    ensures { table.new ≡ tabulated 0 (length table.old) (λ i. bit (has (families_of subfile.now.selection subfile.now.numbers.now) i)) }
+    ensures { table.new ≡ tabulated 0 (length table.old) (λ i. bit (has (families_of subfile.now.selection subfile.now.families.now) i)) }
 {
-    let s = subfile.selection;
-    families::paint(subfile.numbers, s.first, s.tops, s.levels, table, 1);
+    subfile.siblings().paint(table, 1);
 }
 
 // Where x stands in the selection.
 pub fn side_at(subfile: &Subfile, x: FileOffset) -> Side
     requires { subfile.now.selection.from ≤ x.0 }
-    ensures { SideAt subfile.now.selection subfile.now.numbers.now x.0 result }
+    ensures { SideAt subfile.now.selection subfile.now.families.now x.0 result }
 {
     let s = subfile.selection;
     let past = x.0 - u64::from(s.from);

@@ -6,14 +6,14 @@ use families::{FileOffset, SubfileOffset};
 use maps::Selection;
 
 // Where the walk's offset stands in one selection: its place in a period, and its rank.
-#[derive(Clone, Copy)]
+#[derive(Clone, Copy, Debug, PartialEq, Eq)]
 pub struct Side {
     pub place: usize,
     pub rank: SubfileOffset,
 }
 
 // A file offset, and where it stands in each selection.
-#[derive(Clone, Copy)]
+#[derive(Clone, Copy, Debug, PartialEq, Eq)]
 pub struct Walk {
     pub x: FileOffset,
     pub one: Side,
@@ -21,7 +21,7 @@ pub struct Walk {
 }
 
 // A selection with a table of one period of it, which is lent: 1 at every place that is selected, and 0 elsewhere.
-#[derive(Clone, Copy)]
+#[derive(Clone, Copy, Debug, PartialEq, Eq)]
 pub struct Marked<'a> {
     pub selection: Selection,
     pub table: &'a [u8],

@@ -1,16 +1,16 @@
 // Said: what an answer says, as seven numbers in a struct, whatever type the answer has. This is how programs print answers, and hand them on to other languages.
 #![tactic(auto)]
 
-ghost use Rattle.std.specs.Prelude.{◌≡◌, [], ◌∷◌};
-ghost use Rattle.openings.specs.Said.{refusal_says};
+ghost use Rattle.std.specs.Prelude.{◌≡◌, List, ℕ, [], ◌∷◌};
 ghost use Rattle.openings.specs.Said.{done};
-ghost use Rattle.astrephon.specs.Says.{checked_says, mapped_says, located_says, spanned_says, listed_says, measured_says, written_says, carried_says};
+ghost use Rattle.openings.specs.Refusals.{refusal_says};
+ghost use Rattle.astrephon.specs.Says.{says, fact_values, subfile_value, file_value, interval_values, number_value, no_values};
 ghost use Rattle.said.specs.Answers.{answer_of};
 
-use astrephon::{Carried, Checked, Listed, Located, Mapped, Measured, Refusal, Spanned, Written};
+use astrephon::{Facts, FileOffset, Interval, Refusal, SubfileOffset};
 
-// Number 0 is a call that did its work; values that it does not give are 0.
-#[derive(Clone, Copy)]
+// Number 0 is a call that did its work; values that it does not give are 0. It is seven words, and no enum, since programs print it and hand it on as such.
+#[derive(Clone, Copy, Debug, PartialEq, Eq)]
 pub struct Answer {
     pub number: u64,
     pub sheet: u64,
@@ -19,6 +19,14 @@ pub struct Answer {
     pub value: u64,
     pub value2: u64,
     pub value3: u64,
+}
+
+// What a call gives that did its work: three values at most.
+pub trait Values {
+    ghost values: { Self → List ℕ };
+
+    fn done(self) -> Answer
+        ensures { result ≡ answer_of (done (values self)) };
 }
 
 // A call that did its work, with three values.
@@ -36,92 +44,85 @@ fn done(value: u64, value2: u64, value3: u64) -> Answer
     }
 }
 
+impl Values for Facts {
+    ghost values = { fact_values };
+
+    fn done(self) -> Answer {
+        done(
+            u64::from(self.size),
+            u64::from(self.elements),
+            u64::from(self.displacement),
+        )
+    }
+}
+
+impl Values for SubfileOffset {
+    ghost values = { subfile_value };
+
+    fn done(self) -> Answer {
+        done(self.0, 0, 0)
+    }
+}
+
+impl Values for FileOffset {
+    ghost values = { file_value };
+
+    fn done(self) -> Answer {
+        done(self.0, 0, 0)
+    }
+}
+
+impl Values for Interval {
+    ghost values = { interval_values };
+
+    fn done(self) -> Answer {
+        done(self.first.0, self.last.0, 0)
+    }
+}
+
+impl Values for u64 {
+    ghost values = { number_value };
+
+    fn done(self) -> Answer {
+        done(self, 0, 0)
+    }
+}
+
+impl Values for usize {
+    ghost values = { number_value };
+
+    fn done(self) -> Answer {
+        done(self as u64, 0, 0)
+    }
+}
+
+impl Values for () {
+    ghost values = { no_values };
+
+    fn done(self) -> Answer {
+        done(0, 0, 0)
+    }
+}
+
 fn refused(refusal: Refusal) -> Answer
     ensures { result ≡ answer_of (refusal_says refusal) }
 {
     Answer {
-        number: refusal.number as u64,
-        sheet: refusal.sheet as u64,
-        place: refusal.place,
-        flag: refusal.flag as u64,
+        number: u64::from(refusal.number()),
+        sheet: u64::from(refusal.sheet()),
+        place: refusal.place(),
+        flag: u64::from(refusal.flag()),
         value: 0,
         value2: 0,
         value3: 0,
     }
 }
 
-pub fn of_checked(checked: Checked) -> Answer
-    ensures { result ≡ answer_of (checked_says checked) }
+pub fn of_outcome<T: Values>(outcome: Result<T, Refusal>) -> Answer
+    ensures { result ≡ answer_of (says T.values outcome) }
 {
-    match checked {
-        Checked::Accepted(facts) => done(
-            facts.size as u64,
-            facts.elements as u64,
-            facts.displacement as u64,
-        ),
-        Checked::Refused(refusal) => refused(refusal),
-    }
-}
-
-pub fn of_mapped(mapped: Mapped) -> Answer
-    ensures { result ≡ answer_of (mapped_says mapped) }
-{
-    match mapped {
-        Mapped::At(y) => done(y.0, 0, 0),
-        Mapped::Refused(refusal) => refused(refusal),
-    }
-}
-
-pub fn of_located(located: Located) -> Answer
-    ensures { result ≡ answer_of (located_says located) }
-{
-    match located {
-        Located::At(x) => done(x.0, 0, 0),
-        Located::Refused(refusal) => refused(refusal),
-    }
-}
-
-pub fn of_spanned(spanned: Spanned) -> Answer
-    ensures { result ≡ answer_of (spanned_says spanned) }
-{
-    match spanned {
-        Spanned::Range(first, last) => done(first.0, last.0, 0),
-        Spanned::Refused(refusal) => refused(refusal),
-    }
-}
-
-pub fn of_listed(listed: Listed) -> Answer
-    ensures { result ≡ answer_of (listed_says listed) }
-{
-    match listed {
-        Listed::Runs(n) => done(n, 0, 0),
-        Listed::Refused(refusal) => refused(refusal),
-    }
-}
-
-pub fn of_measured(measured: Measured) -> Answer
-    ensures { result ≡ answer_of (measured_says measured) }
-{
-    match measured {
-        Measured::Bytes(n) => done(n, 0, 0),
-        Measured::Refused(refusal) => refused(refusal),
-    }
-}
-
-pub fn of_carried(carried: Carried) -> Answer
-    ensures { result ≡ answer_of (carried_says carried) }
-{
-    match carried {
-        Carried::Done => done(0, 0, 0),
-        Carried::Refused(refusal) => refused(refusal),
-    }
-}
-
-pub fn of_written(written: Written) -> Answer
-    ensures { result ≡ answer_of (written_says written) }
-{
-    match written {
-        Written::Bytes(n) => done(n, 0, 0),
-        Written::Refused(refusal) => refused(refusal),
+    match outcome {
+        Ok(given) => given.done(),
+        Err(refusal) => refused(refusal),
     }
 }

@@ -1,19 +1,19 @@
 -- `gather` meets its contract. Assumes nothing.
-use mathlib.Core.Path.{refl}
-use Rattle.astrephon.proofs.Transfers.{carry_asks, gathered_closed, gathered_done}
+use mathlib.Core.Path.{refl, sym}
+use Rattle.openings.proofs.Orders.{left_held}
+use Rattle.astrephon.specs.Carries.{gather_of}
+use Rattle.astrephon.proofs.Transfers.{carry_asks, gathered_done}
 use Rattle.astrephon.proofs.carrying.gather.Goals as goal
 
-pub returns-then-refusal-ne0 : goal.returns-then-refusal-ne0
-returns-then-refusal-ne0 c =
-    let p = (gathered_closed _ _ _ _ _ _ c.open_buffers-opening.ensures c.if-refusal-ne0.true) in
-    record { fact_1 = p.0; fact_2 = p.1 }
+pub returns-in_err-opening-clause-leaves : goal.returns-in_err-opening-clause-leaves
+unfolding gather_of
+returns-in_err-opening-clause-leaves c = sym (left_held c.args.packed.now _ (c.in_err-opening.ensures _))
 
 pub gather-requires : goal.gather-requires
 gather-requires c =
-    let p = (carry_asks _ _ _ _ _ _ c.open_buffers-opening.ensures c.if-refusal-ne0.false _ refl refl) in
+    let O = c.in_ok-opening.ensures in
+    let p = carry_asks _ _ _ _ _ _ O.0 O.1 _ refl refl in
     record { fact_1 = p.0; fact_2 = p.1.0; fact_3 = p.1.1 }
 
-pub returns : goal.returns
-returns c =
-    let p = (gathered_done _ _ _ _ _ _ c.open_buffers-opening.ensures c.if-refusal-ne0.false _ c.gather.ensures) in
-    record { fact_1 = p.0; fact_2 = p.1 }
+pub returns-clause-leaves : goal.returns-clause-leaves
+returns-clause-leaves c = let O = c.in_ok-opening.ensures in gathered_done _ _ _ _ _ _ _ O.1 O.0 c.gather.ensures

@@ -1,14 +1,16 @@
 -- `list_sheet` meets its contract. Assumes nothing.
 use native.Mathlib.Omega.{arith}
-use Rattle.astrephon.proofs.Texts.{written_refused, written_done}
+use Rattle.astrephon.proofs.Texts.{buffer_says, buffer_leaves, text_says, text_leaves}
 use Rattle.astrephon.proofs.listing.list_sheet.Goals as goal
 
-pub returns-then-text-n : goal.returns-then-text-n
-returns-then-text-n c =
-    let p = (written_refused c.put_listing-n.ensures (omega arith) _ _ c.call_refusal.ensures (omega arith)) in
-    record { fact_1 = p.0; fact_2 = p.1 }
+pub returns-then-text-n-clause-says : goal.returns-then-text-n-clause-says
+returns-then-text-n-clause-says c = buffer_says c.put_listing-n.ensures (omega arith) _ c.if-text-n.true
 
-pub returns : goal.returns
-returns c =
-    let p = (written_done c.put_listing-n.ensures (omega arith) _ (omega arith) c.copy_run.ensures) in
-    record { fact_1 = p.0; fact_2 = p.1 }
+pub returns-then-text-n-clause-leaves : goal.returns-then-text-n-clause-leaves
+returns-then-text-n-clause-leaves c = buffer_leaves c.put_listing-n.ensures (omega arith) _ c.if-text-n.true
+
+pub returns-clause-says : goal.returns-clause-says
+returns-clause-says c = text_says c.put_listing-n.ensures (omega arith) _ c.if-text-n.false
+
+pub returns-clause-leaves : goal.returns-clause-leaves
+returns-clause-leaves c = text_leaves c.put_listing-n.ensures (omega arith) _ c.if-text-n.false c.copy_run.ensures

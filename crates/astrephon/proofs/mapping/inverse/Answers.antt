@@ -1,20 +1,19 @@
 -- `inverse` meets its contract. Assumes nothing.
 use native.Mathlib.Omega.{arith}
 use Rattle.openings.proofs.Opens.{opened}
-use Rattle.astrephon.proofs.Mappings.{inverse_closed, inverse_past, inverse_beyond, inverse_at}
+use Rattle.astrephon.proofs.Mappings.{inverse_past, inverse_beyond, inverse_at}
 use Rattle.astrephon.proofs.mapping.inverse.Goals as goal
 
-pub returns-then-refusal-ne0 : goal.returns-then-refusal-ne0
-returns-then-refusal-ne0 c = inverse_closed c.open_element-opening.ensures c.if-refusal-ne0.true _
-
 pub returns-then-byte-ge-LIMIT : goal.returns-then-byte-ge-LIMIT
-returns-then-byte-ge-LIMIT c = inverse_past (opened _ _ c.open_element-opening.ensures c.if-refusal-ne0.false) _ (omega (arith, c.if-byte-ge-LIMIT.true)) _ c.call_refusal.ensures
+returns-then-byte-ge-LIMIT c = let O = c.in_ok-opening.ensures in inverse_past (opened _ _ O.1 O.0) _ (omega (arith, c.if-byte-ge-LIMIT.true))
 
-pub file_inverse-place-requires : goal.file_inverse-place-requires
-file_inverse-place-requires c = record { fact_1 = (opened _ _ c.open_element-opening.ensures c.if-refusal-ne0.false).ok; fact_2 = omega (arith, c.if-byte-ge-LIMIT.false) }
+pub file_inverse-place-requires-clause-fact_1 : goal.file_inverse-place-requires-clause-fact_1
+file_inverse-place-requires-clause-fact_1 c = let O = c.in_ok-opening.ensures in (opened _ _ O.1 O.0).ok
 
 pub returns-then-place-ge-LIMIT : goal.returns-then-place-ge-LIMIT
-returns-then-place-ge-LIMIT c = inverse_beyond (opened _ _ c.open_element-opening.ensures c.if-refusal-ne0.false) c.args.y.0 _ _ c.file_inverse-place.ensures (omega arith) c.if-place-ge-LIMIT.true _ c.call_refusal-then-place-ge-LIMIT.ensures
+returns-then-place-ge-LIMIT c =
+    let O = c.in_ok-opening.ensures in
+    inverse_beyond (opened _ _ O.1 O.0) c.args.y.0 _ _ c.file_inverse-place.ensures (omega arith) c.if-place-ge-LIMIT.true
 
 pub returns : goal.returns
-returns c = inverse_at (opened _ _ c.open_element-opening.ensures c.if-refusal-ne0.false) _ _ c.file_inverse-place.ensures c.if-place-ge-LIMIT.false
+returns c = let O = c.in_ok-opening.ensures in inverse_at (opened _ _ O.1 O.0) _ _ c.file_inverse-place.ensures c.if-place-ge-LIMIT.false

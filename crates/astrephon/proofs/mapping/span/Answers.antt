@@ -1,19 +1,30 @@
 -- `span` meets its contract. Assumes nothing.
-use Rattle.openings.proofs.Opens.{opened}
-use Rattle.astrephon.proofs.Mappings.{span_closed, span_fault, span_at}
+use Prim.Native.Nat.{ℕ}
+use Rattle.std.proofs.lemmas.Result.{err_from_is_err_and}
+use Rattle.openings.specs.Offsets.{interval_tests}
+use Rattle.openings.proofs.Opens.{opened, tests_refused, tests_passed}
+use Rattle.astrephon.specs.Maps.{span_of}
+use Rattle.astrephon.proofs.Mappings.{span_at}
 use Rattle.astrephon.proofs.mapping.span.Goals as goal
 
-pub returns-then-refusal-ne0 : goal.returns-then-refusal-ne0
-returns-then-refusal-ne0 c = span_closed c.open_element-opening.ensures c.if-refusal-ne0.true _ _
-
-pub returns-then-fault-ne0 : goal.returns-then-fault-ne0
-returns-then-fault-ne0 c = span_fault (opened _ _ c.open_element-opening.ensures c.if-refusal-ne0.false) _ _ _ c.range_fault-fault.ensures _ c.call_refusal.ensures c.if-fault-ne0.true
+pub returns-in_err-check_range : goal.returns-in_err-check_range
+unfolding span_of
+returns-in_err-check_range c =
+    let a = c.args in
+    let r = c.from_residual-in_err-check_range in
+    let O = c.in_ok-opening.ensures in
+    let p = err_from_is_err_and r.result r.ensures.1 in
+    rw (p.1, p.2) (tests_refused a.sheet.now a.element O.1 O.0 (λ (d : ℕ). interval_tests d a.a.0 a.z.0) c.in_err-check_range.field-0.0 c.in_err-check_range.ensures _)
 
 pub file_rank-first-requires : goal.file_rank-first-requires
-file_rank-first-requires c = (opened _ _ c.open_element-opening.ensures c.if-refusal-ne0.false).ok
+file_rank-first-requires c = let O = c.in_ok-opening.ensures in (opened _ _ O.1 O.0).ok
 
 pub file_rank-last-requires : goal.file_rank-last-requires
-file_rank-last-requires c = (opened _ _ c.open_element-opening.ensures c.if-refusal-ne0.false).ok
+file_rank-last-requires c = let O = c.in_ok-opening.ensures in (opened _ _ O.1 O.0).ok
 
 pub returns : goal.returns
-returns c = span_at (opened _ _ c.open_element-opening.ensures c.if-refusal-ne0.false) _ _ _ c.range_fault-fault.ensures c.if-fault-ne0.false _ _ c.file_rank-first.ensures c.file_rank-last.ensures
+returns c =
+    let a = c.args in
+    let O = c.in_ok-opening.ensures in
+    let passes = tests_passed a.sheet.now a.element O.1 O.0 (λ (d : ℕ). interval_tests d a.a.0 a.z.0) c.in_ok-check_range.ensures in
+    span_at (opened _ _ O.1 O.0) a.a.0 a.z.0 passes _ _ c.file_rank-first.ensures c.file_rank-last.ensures

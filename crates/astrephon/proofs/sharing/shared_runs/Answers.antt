@@ -1,24 +1,27 @@
 -- `shared_runs` meets its contract. Assumes nothing.
-use mathlib.Core.Path.{refl}
-use Rattle.astrephon.proofs.Listings.{shared_closed, shared_asks, shared_room, shared_listed}
+use mathlib.Core.Path.{refl, sym}
+use Rattle.openings.proofs.Orders.{left_held}
+use Rattle.astrephon.specs.Shares.{shared_runs_of}
+use Rattle.astrephon.proofs.Listings.{shared_asks, room_says, room_leaves, runs_says, runs_leaves}
 use Rattle.astrephon.proofs.sharing.shared_runs.Goals as goal
 
-pub returns-then-refusal-ne0 : goal.returns-then-refusal-ne0
-returns-then-refusal-ne0 c =
-    let p = (shared_closed _ _ _ _ _ _ c.open_pair-pair.ensures _ c.if-refusal-ne0.true) in
-    record { fact_1 = p.0; fact_2 = p.1 }
+pub returns-in_err-pair-clause-leaves : goal.returns-in_err-pair-clause-leaves
+unfolding shared_runs_of
+returns-in_err-pair-clause-leaves c = sym (left_held c.args.list.now _ (c.in_err-pair.ensures _))
 
 pub list_shared-runs-requires : goal.list_shared-runs-requires
 list_shared-runs-requires c =
-    let p = (shared_asks _ _ _ _ _ _ c.open_pair-pair.ensures c.args.list.now c.if-refusal-ne0.false _ refl refl) in
+    let p = shared_asks _ _ _ _ _ _ c.in_ok-pair.ensures _ refl refl in
     record { fact_1 = p.0; fact_2 = p.1.0; fact_3 = p.1.1 }
 
-pub returns-then-room-runs : goal.returns-then-room-runs
-returns-then-room-runs c =
-    let p = (let l = c.list_shared-runs in shared_room _ _ _ _ _ _ c.open_pair-pair.ensures _ c.if-refusal-ne0.false _ l.ensures.number _ l.ensures.list _ c.call_refusal.ensures c.if-room-runs.true) in
-    record { fact_1 = p.0; fact_2 = p.1 }
+pub returns-then-room-runs-clause-says : goal.returns-then-room-runs-clause-says
+returns-then-room-runs-clause-says c = let l = c.list_shared-runs in room_says _ _ _ _ _ _ c.in_ok-pair.ensures _ _ l.ensures.number c.if-room-runs.true
 
-pub returns : goal.returns
-returns c =
-    let p = (let l = c.list_shared-runs in shared_listed _ _ _ _ _ _ c.open_pair-pair.ensures _ c.if-refusal-ne0.false _ l.ensures.number _ l.ensures.list c.if-room-runs.false) in
-    record { fact_1 = p.0; fact_2 = p.1 }
+pub returns-then-room-runs-clause-leaves : goal.returns-then-room-runs-clause-leaves
+returns-then-room-runs-clause-leaves c = let l = c.list_shared-runs in room_leaves _ _ _ _ _ _ c.in_ok-pair.ensures _ _ l.ensures.number c.if-room-runs.true _ l.ensures.list
+
+pub returns-clause-says : goal.returns-clause-says
+returns-clause-says c = let l = c.list_shared-runs in runs_says _ _ _ _ _ _ c.in_ok-pair.ensures _ _ l.ensures.number c.if-room-runs.false
+
+pub returns-clause-leaves : goal.returns-clause-leaves
+returns-clause-leaves c = let l = c.list_shared-runs in runs_leaves _ _ _ _ _ _ c.in_ok-pair.ensures _ _ l.ensures.number c.if-room-runs.false _ l.ensures.list

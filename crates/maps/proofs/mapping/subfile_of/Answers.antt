@@ -3,4 +3,4 @@ use Rattle.maps.proofs.Chosen.{selection_ok}
 use Rattle.maps.proofs.mapping.subfile_of.Goals as goal
 
 pub invariant_of-result : goal.invariant_of-result
-invariant_of-result c = record { ok = rw (c.selection_of.ensures, c.requires.row) (selection_ok _ _ c.requires.shared _ c.requires.there) }
+invariant_of-result c = record { ok = rw c.selection_of.ensures (selection_ok _ _ c.requires.shared _ c.requires.there) }

@@ -1,18 +1,25 @@
 -- `open_buffers` meets its contract. Assumes nothing.
-use Rattle.openings.proofs.Opens.{windowed, count_is}
-use Rattle.openings.proofs.ElementOpens.{still_closed, buffers_checked}
+use Rattle.std.proofs.lemmas.Result.{err_from_is_err_and}
+use Rattle.openings.proofs.Opens.{windowed, counted_refused, counted_passed}
 use Rattle.openings.proofs.opened.open_buffers.Goals as goal
 
-pub returns-then-refusal-ne0 : goal.returns-then-refusal-ne0
-returns-then-refusal-ne0 c = still_closed c.open_window-opening.ensures _ c.if-refusal-ne0.true
+pub count-selected-requires-clause-selects : goal.count-selected-requires-clause-selects
+count-selected-requires-clause-selects c = let O = c.in_ok-opening.ensures in (windowed _ _ _ _ O.0 O.1).opened.ok
 
-pub overflow_sub-bytes : goal.overflow_sub-bytes
-overflow_sub-bytes c = (windowed _ _ _ _ c.open_window-opening.ensures c.if-refusal-ne0.false).forward
+pub count-selected-requires-clause-forward : goal.count-selected-requires-clause-forward
+count-selected-requires-clause-forward c = let O = c.in_ok-opening.ensures in (windowed _ _ _ _ O.0 O.1).forward
 
-pub count-selected-requires : goal.count-selected-requires
-count-selected-requires c =
-    let W = windowed _ _ _ _ c.open_window-opening.ensures c.if-refusal-ne0.false in
-    record { fact_1 = W.opened.ok; fact_2 = W.forward }
+pub overflow_sub-b : goal.overflow_sub-b
+overflow_sub-b c = let O = c.in_ok-opening.ensures in (windowed _ _ _ _ O.0 O.1).forward
+
+pub returns-in_err-check_buffers : goal.returns-in_err-check_buffers
+returns-in_err-check_buffers c =
+    let r = c.from_residual-in_err-check_buffers in
+    let O = c.in_ok-opening.ensures in
+    let p = err_from_is_err_and r.result r.ensures.1 in
+    rw (p.1, p.2) (counted_refused c.args.sheet.now c.args.element c.args.a.0 c.args.b.0 c.args.file c.args.packed O.0 O.1 _ c.count-selected.ensures c.in_err-check_buffers.field-0.0 c.in_err-check_buffers.ensures)
 
 pub returns : goal.returns
-returns c = let O = c.open_window-opening.ensures in let z = c.if-refusal-ne0.false in buffers_checked _ _ _ _ _ _ O z _ (count_is (windowed _ _ _ _ O z) _ c.count-selected.ensures) _ c.buffer_fault-misfit.ensures _ c.call_refusal.ensures
+returns c =
+    let O = c.in_ok-opening.ensures in
+    (counted_passed c.args.sheet.now c.args.element c.args.a.0 c.args.b.0 c.args.file c.args.packed O.0 O.1 _ c.count-selected.ensures c.in_ok-check_buffers.ensures, O.1)

@@ -1,18 +1,11 @@
 -- `open_element` meets its contract. Assumes nothing.
-use native.Mathlib.Omega.{arith}
-use Rattle.openings.proofs.Opens.{layout_rules}
-use Rattle.openings.proofs.ElementOpens.{sheet_closed, element_closed, element_opened}
-use borrow.Author.Rules.{rules}
+use Rattle.openings.proofs.Verdicts.{passes_none}
+use Rattle.openings.proofs.Faults.{element_known}
+use Rattle.openings.proofs.Opens.{read_rules}
 use Rattle.openings.proofs.opened.open_element.Goals as goal
 
-pub returns-then-reading-ne0 : goal.returns-then-reading-ne0
-returns-then-reading-ne0 c = sheet_closed _ _ c.read-reading.ensures _ _ c.sheet_refusal.ensures c.if-reading-ne0.true _ c.closed.ensures _
+pub choose-requires-clause-rules : goal.choose-requires-clause-rules
+choose-requires-clause-rules c = read_rules c.args.sheet.now 1 _ c.in_ok-accepted.ensures
 
-pub returns-then-layout-element : goal.returns-then-layout-element
-returns-then-layout-element c = element_closed _ _ c.read-reading.ensures _ c.if-reading-ne0.false _ c.call_refusal.ensures (omega (arith, c.if-layout-element.true)) _ c.closed-then-layout-element.ensures _
-
-pub choose-selection-requires : goal.choose-selection-requires
-choose-selection-requires c = (search rules, (layout_rules _ _ c.read-reading.ensures c.if-reading-ne0.false, omega (arith, c.if-layout-element.false)))
-
-pub returns : goal.returns
-returns c = element_opened _ _ c.read-reading.ensures _ c.if-reading-ne0.false _ c.call_refusal-2.ensures (omega (arith, c.if-layout-element.false)) _ c.choose-selection.ensures.0 _ c.choose-selection.ensures.1
+pub choose-requires-clause-there : goal.choose-requires-clause-there
+choose-requires-clause-there c = element_known _ _ (passes_none _ c.in_ok-check_element.ensures)

@@ -1,9 +1,20 @@
 -- `open_window` meets its contract. Assumes nothing.
-use Rattle.openings.proofs.ElementOpens.{still_closed, window_checked}
+use Prim.Native.Nat.{ℕ}
+use Rattle.std.proofs.lemmas.Result.{err_from_is_err_and}
+use Rattle.openings.specs.Offsets.{window_tests}
+use Rattle.openings.proofs.Opens.{tests_refused, tests_passed}
 use Rattle.openings.proofs.opened.open_window.Goals as goal
 
-pub returns-then-refusal-ne0 : goal.returns-then-refusal-ne0
-returns-then-refusal-ne0 c = still_closed c.open_element-opening.ensures _ c.if-refusal-ne0.true
+pub returns-in_err-check_range : goal.returns-in_err-check_range
+returns-in_err-check_range c =
+    let a = c.args in
+    let r = c.from_residual-in_err-check_range in
+    let O = c.in_ok-opening.ensures in
+    let p = err_from_is_err_and r.result r.ensures.1 in
+    rw (p.1, p.2) (tests_refused a.sheet.now a.element O.1 O.0 (λ (d : ℕ). window_tests d a.a.0 a.b.0) c.in_err-check_range.field-0.0 c.in_err-check_range.ensures)
 
 pub returns : goal.returns
-returns c = window_checked _ _ c.args.a.0 c.args.b.0 c.open_element-opening.ensures c.if-refusal-ne0.false _ c.range_fault-fault.ensures _ c.call_refusal.ensures
+returns c =
+    let a = c.args in
+    let O = c.in_ok-opening.ensures in
+    (tests_passed a.sheet.now a.element O.1 O.0 (λ (d : ℕ). window_tests d a.a.0 a.b.0) c.in_ok-check_range.ensures, O.1)

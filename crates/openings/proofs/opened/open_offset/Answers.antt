@@ -1,0 +1,18 @@
+-- `open_offset` meets its contract. Assumes nothing.
+use Prim.Native.Nat.{ℕ}
+use Rattle.std.proofs.lemmas.Result.{err_from_is_err_and}
+use Rattle.openings.specs.Offsets.{offset_tests}
+use Rattle.openings.proofs.Opens.{tests_refused, tests_passed}
+use Rattle.openings.proofs.opened.open_offset.Goals as goal
+
+pub returns-in_err-check_offset : goal.returns-in_err-check_offset
+returns-in_err-check_offset c =
+    let r = c.from_residual-in_err-check_offset in
+    let O = c.in_ok-opening.ensures in
+    let p = err_from_is_err_and r.result r.ensures.1 in
+    rw (p.1, p.2) (tests_refused c.args.sheet.now c.args.element O.1 O.0 (λ (d : ℕ). offset_tests d c.args.x.0) c.in_err-check_offset.field-0.0 c.in_err-check_offset.ensures)
+
+pub returns : goal.returns
+returns c =
+    let O = c.in_ok-opening.ensures in
+    (tests_passed c.args.sheet.now c.args.element O.1 O.0 (λ (d : ℕ). offset_tests d c.args.x.0) c.in_ok-check_offset.ensures, O.1)
