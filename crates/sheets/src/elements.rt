@@ -1,5 +1,5 @@
 // Elements: the records of a sheet from its header to its last byte.
-ghost use Rattle.std.specs.Prelude.{◌≡◌, ◌+◌, ◌-◌, ◌*◌, ◌≤◌, ◌<◌, length};
+ghost use Rattle.std.specs.Prelude.{◌≡◌, ◌+◌, ◌-◌, ◌≤◌, ◌<◌, length};
 ghost use Rattle.sheets.specs.Sheet.{top, elements_from, elements_of};
 ghost use Rattle.sheets.specs.Steps.{Progressed, WrittenAll, with_element, start};
 
