@@ -11,11 +11,10 @@ use Rattle.counting.proofs.Gathers.{length_tabulated, get_or_tabulated, tabulate
 use Rattle.families.specs.declared.Family.{Family}
 use Rattle.families.specs.declared.Element.{Element}
 use Rattle.families.specs.declared.Layout.{Layout}
-use Rattle.families.specs.Forest.{Forest, nil, node, has, size_of, WF, Sound}
-use Rattle.families.specs.Decoded.{no_family, no_element, family_in, InUse, siblings, forest_at, element_of, tree_of, trees_of, selections, LayoutOk, row_of, family_at}
+use Rattle.families.specs.Forest.{Forest, nil, node, has, size_of, WF, Sound, FARTHEST, RulesKept}
+use Rattle.families.specs.Decoded.{no_family, no_element, family_in, InUse, siblings, forest_at, element_of, tree_of, trees_of, selections, LayoutOk}
 use Rattle.families.specs.Flat.{All, width, total, depth, flat, totals, flats, elements_at, layout_of}
 use Rattle.families.proofs.Forests.{wf_wider, size_le, size_some}
-use Rattle.families.proofs.Rows.{row_element, none_there}
 use Rattle.families.proofs.Steps.{none_left, step}
 
 -- ---- how long the lists are
@@ -141,14 +140,17 @@ element_some levels bound t ok e h =
     let S = step levels (family_in t.family) (element_of t e).first (element_of t e).tops bound _ (ok.some e h) (ok.ruled e h) refl in
     rw S.is (size_some 0 bound _ _ _ _ _ _ S.ok)
 
--- ---- what `size` is asked of an element's families in a row, and what it answers
-module _ (levels bound : ℕ) (t : Layout) (ok : LayoutOk levels bound t) (e : ℕ) (h : e < t.elements) (numbers : List ℕ) (row : numbers ≡ row_of t.family) where
-  pub element_sound : bound < 2 ^ 32 → Sound (forest_at levels (family_at numbers) (element_of t e).first (element_of t e).tops)
-  element_sound small = rw (row_element levels t e numbers row) (wf_wider (tree_of levels t e) (omega arith) (omega arith) (ok.ruled e h))
+-- ---- what is asked to lend an element's families, and to seek in them; and what `size` answers of them
+module _ (levels bound : ℕ) (t : Layout) (ok : LayoutOk levels bound t) (e : ℕ) (h : e < t.elements) where
+  pub element_ruled : bound ≤ FARTHEST → RulesKept (tree_of levels t e)
+  element_ruled near = wf_wider (tree_of levels t e) (omega arith) near (ok.ruled e h)
 
-  module _ (size : ℕ) (is : size ≡ size_of (forest_at levels (family_at numbers) (element_of t e).first (element_of t e).tops)) where
+  pub element_sound : bound < 2 ^ 32 → Sound (tree_of levels t e)
+  element_sound small = wf_wider (tree_of levels t e) (omega arith) (omega arith) (ok.ruled e h)
+
+  module _ (F : Forest) (lent : F ≡ tree_of levels t e) (size : ℕ) (is : size ≡ size_of F) where
     pub element_size : size ≡ size_of (tree_of levels t e)
-    element_size = is ∙ ap size_of (row_element levels t e numbers row)
+    element_size = is ∙ ap size_of lent
 
     pub element_small : size ≤ bound + 1
     element_small = omega (arith, element_size, size_le 0 bound (tree_of levels t e) (ok.ruled e h))
@@ -161,6 +163,12 @@ ok_trees levels bound t room used a = record { room = room; used = used; some = 
     each : (e : ℕ) → e < t.elements → ElementOk bound (tree_of levels t e)
     each e h =
         rw (tree_at levels t e h) at (all_at (ElementOk bound) (trees_of levels t) e a (omega (arith, length_tabulated 0 t.elements (tree_of levels t))))
+
+-- ---- room that is not in use
+none_there : (m i : ℕ) → family_in (replicate m no_family) i ≡ no_family
+none_there zero i = refl
+none_there (suc m) zero = refl
+none_there (suc m) (suc i) = none_there m i
 
 -- ---- THE LAYOUT OF TREES: as many families are in use as there are, and it meets the rules
 pub layout_used : (d : ℕ) (Fs : List Forest) → totals Fs ≤ 256 → InUse (totals Fs) (family_in (layout_of d Fs).family)

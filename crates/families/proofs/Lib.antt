@@ -1,11 +1,10 @@
 pub mod Division
 pub mod Forests
 pub mod OneFamily
-pub mod NestedFamily
 pub mod Steps
+pub mod NestedFamily
 pub mod Loops
 pub mod Filling
-pub mod Rows
 pub mod Flats
 pub mod Marks
 pub mod Turns

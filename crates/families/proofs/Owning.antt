@@ -17,11 +17,11 @@ use Rattle.counting.proofs.Cases.{by_test, lt_or_le}
 use Rattle.counting.proofs.Gathers.{length_tabulated, get_or_tabulated, tabulated_more}
 use Rattle.counting.proofs.Elements.{first_lt, first_has, first_only, times_append}
 use Rattle.families.specs.declared.Layout.{Layout}
-use Rattle.families.specs.Forest.{Forest, has, inner, WF}
-use Rattle.families.specs.Decoded.{element_of, forest_at, family_at, row_of, tree_of, selections, LayoutOk}
+use Rattle.families.specs.Forest.{Forest, has, inner, WF, FARTHEST, RulesKept}
+use Rattle.families.specs.Decoded.{family_in, tree_of, selections, LayoutOk}
 use Rattle.families.specs.Owners.{owner, mark, painted}
+use Rattle.families.proofs.Forests.{wf_wider}
 use Rattle.families.proofs.Marks.{painted_is}
-use Rattle.families.proofs.Rows.{row_element}
 use Rattle.families.proofs.Turns.{inner_has}
 
 -- ---- the three kinds of entry: t elements have the offset, f is the first of the n elements that has it, and o is the entry
@@ -136,32 +136,28 @@ going_start levels t m table e some ok =
           ap (λ (r : List ℕ). get_or r x 0) e ∙ get_or-replicate {A = ℕ} m x 0 0 (omega arith) ∙ sym (get_or_tabulated 0 m (owner []) x 0 (omega arith)));
     }
 
-module _ {levels : ℕ} {t : Layout} {m e : ℕ} {table numbers : List ℕ} (G : Going levels t m e table) (h : e < t.elements) (row : numbers ≡ row_of t.family) where
-  abbrev read : Forest
-  read = let el = element_of t e in forest_at levels (family_at numbers) el.first el.tops
+-- .. and what is asked to paint element e, whose families F are
+module _ {levels : ℕ} {t : Layout} {m e : ℕ} {table : List ℕ} (G : Going levels t m e table) (h : e < t.elements) where
+  pub going_ruled : m ≤ FARTHEST → RulesKept (tree_of levels t e)
+  going_ruled near = wf_wider (tree_of levels t e) (omega arith) (omega arith) (G.ok.ruled e h)
 
-  read_is : read ≡ tree_of levels t e
-  read_is = row_element levels t e numbers row
+  module _ (F : Forest) (lent : F ≡ tree_of levels t e) where
+    pub going_asks : WF 0 (length table - 1) F
+    going_asks = rw (G.same, lent) (G.ok.ruled e h)
 
-  pub going_asks : let el = element_of t e in
-      (0 < length table) × WF 0 (length table - 1) (forest_at levels (family_at numbers) el.first el.tops)
-  going_asks = rw (G.same, read_is) (G.some, G.ok.ruled e h)
+    pub going_next : (table' : List ℕ) → table' ≡ painted (inner F) (e + 1) table → Going levels t m (e + 1) table'
+    unfolding tabulated
+    going_next table' q = record { some = G.some; ok = G.ok; upto = omega arith; same = ap length now ∙ length_tabulated 0 m _; is = now }
+      where
+        selects : inner F ≡ has (tree_of levels t e)
+        selects = ap inner lent ∙ inner_has levels (family_in t.family) _ _ (λ z. omega (arith, G.ok.some e h))
 
-  pub going_next : (table' : List ℕ) → let el = element_of t e in
-      table' ≡ painted (inner (forest_at levels (family_at numbers) el.first el.tops)) (e + 1) table
-      → Going levels t m (e + 1) table'
-  unfolding tabulated
-  going_next table' q = record { some = G.some; ok = G.ok; upto = omega arith; same = ap length now ∙ length_tabulated 0 m _; is = now }
-    where
-      selects : inner read ≡ has (tree_of levels t e)
-      selects = inner_has levels (family_at numbers) _ _ (λ z. omega (arith, G.ok.some e h)) ∙ ap has read_is
-
-      now : table' ≡ tabulated 0 m (owner (elements_to levels t (e + 1)))
-      now =
-          q
-          ∙ ap₂ (λ (p : ℕ → Bool) (r : List ℕ). painted p (e + 1) r) selects G.is
-          ∙ painted_more (elements_to levels t e) (has (tree_of levels t e)) m e (length_tabulated 0 e _) (omega (arith, G.ok.room))
-          ∙ rw (add-one e, tabulated_more 0 e, zero-add) refl
+        now : table' ≡ tabulated 0 m (owner (elements_to levels t (e + 1)))
+        now =
+            q
+            ∙ ap₂ (λ (p : ℕ → Bool) (r : List ℕ). painted p (e + 1) r) selects G.is
+            ∙ painted_more (elements_to levels t e) (has (tree_of levels t e)) m e (length_tabulated 0 e _) (omega (arith, G.ok.room))
+            ∙ rw (add-one e, tabulated_more 0 e, zero-add) refl
 
 pub going_end : {levels : ℕ} {t : Layout} {m e : ℕ} {table : List ℕ} → Going levels t m e table → t.elements ≤ e → table ≡ tabulated 0 m (owner (selections levels t))
 unfolding selections

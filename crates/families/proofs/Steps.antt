@@ -3,13 +3,14 @@ use mathlib.Core.Path.{◌≡◌, refl}
 use mathlib.Core.Bool.{true, false}
 use mathlib.Core.List.{List}
 use mathlib.Core.Logic.{⊎_elim}
-use Prim.Native.Nat.{ℕ, zero, suc, ◌+◌, ◌-◌, ◌*◌, ◌≤◌, ◌<◌}
+use Prim.Native.Nat.{ℕ, zero, suc, ◌+◌, ◌-◌, ◌≤◌, ◌<◌}
 use native.Mathlib.Omega.{arith}
 use lib.ListN.{length, get_or-eq_default}
 use Rattle.counting.proofs.Cases.{lt_or_le}
 use Rattle.families.specs.declared.Family.{Family}
-use Rattle.families.specs.Forest.{Forest, nil, node, is_nil, WF}
-use Rattle.families.specs.Decoded.{siblings, forest_at, family_at, FitsIn}
+use Rattle.families.specs.declared.siblings.Siblings.{Siblings}
+use Rattle.families.specs.Forest.{Forest, nil, node, is_nil, WF, FARTHEST}
+use Rattle.families.specs.Decoded.{no_family, family_in, siblings, forest_at, FitsIn}
 use Rattle.families.proofs.Forests.{wf_wider, ruled}
 
 -- the children of a family f that stands at `at`, its younger siblings, and all three as a tree
@@ -71,7 +72,15 @@ branch levels look i zero h = absurd (h refl)
 branch zero look i (suc k) h = refl
 branch (suc d) look i (suc k) h = refl
 
--- a family that has a segment stands whole in the row
-pub held : (row : List ℕ) (at bound : ℕ) → FitsIn bound (family_at row at) → 6 * at + 5 < length row
-held row at bound f =
-    ⊎_elim (λ l. l) (λ l. absurd (omega (arith, f.some, get_or-eq_default row 0 l))) (lt_or_le (6 * at + 5) (length row))
+-- a family that has a segment is in the list
+held : (families : List Family) (at bound : ℕ) → FitsIn bound (family_in families at) → at < length families
+held families at bound f =
+    let none : length families ≤ at → family_in families at ≡ no_family = λ l. get_or-eq_default families no_family l in
+    ⊎_elim (λ l. l) (λ l. absurd (omega (arith, rw (none l) at f.some))) (lt_or_le at (length families))
+
+-- what stands first in siblings that are lent
+pub eldest : (s : Siblings) → 1 ≤ s.count → Step s.levels (family_in s.families.now) s.first s.count FARTHEST (family_in s.families.now s.first)
+eldest s h = step _ _ _ _ _ _ h s.ruled refl
+
+pub listed : (s : Siblings) → 1 ≤ s.count → s.first < length s.families.now
+listed s h = held s.families.now s.first FARTHEST (eldest s h).fits

@@ -13,11 +13,15 @@ use lib.Seq.{length-take-le, get_or-append-add, get_or-take, get_or-drop}
 use borrow.Author.Tests.{le-leb, lt-leb}
 use Rattle.counting.proofs.Cases.{lt_or_le}
 use Rattle.families.specs.declared.Family.{Family}
+use Rattle.families.specs.declared.nested.Nested.{Nested}
+use Rattle.families.specs.declared.siblings.Siblings.{Siblings}
 use Rattle.families.specs.Forest.{Forest, any_below, in_segment, in_segments, has, inner, WF}
 use Rattle.families.specs.Decoded.{segments_of, FitsIn, forest_at}
+use Rattle.families.specs.Lent.{forest_of, Split}
 use Rattle.families.specs.Owners.{mark, painted}
-use Rattle.families.proofs.Forests.{inner_leaf, inner_kids}
-use Rattle.families.proofs.Steps.{kids_of, Step, step, none_left, leaf, branch}
+use Rattle.families.proofs.Forests.{wf_wider, Ruled, ruled, inner_leaf, inner_kids}
+use Rattle.families.proofs.Steps.{leaf, branch}
+use Rattle.families.proofs.Loops.{Rest, rest_first, rest_next, rest_nil, nil_has}
 use Rattle.families.proofs.Marks.{length_painted, get_or_painted, painted_is, painted_none, painted_or}
 
 -- ---- one segment, painted by itself as a part of the table
@@ -72,7 +76,7 @@ module _ (K : ℕ → Bool) (me from last m : ℕ) (t : List ℕ) (is : m ≡ la
           ∙ get_or-drop from t (m + (x - from - m)) 0
           ∙ ap (λ (k : ℕ). get_or t k 0) z)
 
--- ---- the loop of `paint_family`: the first k segments are painted, the first of all being the one from l to e
+-- ---- the loop over a family's segments: the first k are painted, the first of all being the one from l to e
 pub record Turn (K : ℕ → Bool) (me l e s : ℕ) (t₀ t : List ℕ) (from to k : ℕ) : Type 0 where
   pub start : from ≡ l + k * s
   pub end : to ≡ e + k * s
@@ -123,39 +127,39 @@ module _ (f : Family) {K : ℕ → Bool} {me : ℕ} {t₀ t : List ℕ} {from to
       let u : f.r + 1 - 1 ≡ f.r = omega arith in
       rw (u, z) at T.paints
 
--- ---- the loop of `paint`: the families from `at` on are left to be painted
-pub record Left (levels : ℕ) (look : ℕ → Family) (F : Forest) (me at left : ℕ) (t₀ t : List ℕ) : Type 0 where
+-- ---- the loop of `paint`: `rest` is left to be painted after i turns
+pub record Painting (all rest : Siblings) (me i : ℕ) (t₀ t : List ℕ) : Type 0 where
+  pub left : Rest all rest i
   pub some : 0 < length t₀
   pub same : length t ≡ length t₀
-  pub ok : WF 0 (length t₀ - 1) (forest_at levels look at left)
-  pub paints : painted (has (forest_at levels look at left)) me t ≡ painted (has F) me t₀
+  pub ok : WF 0 (length t₀ - 1) (forest_of rest)
+  pub paints : painted (has (forest_of rest)) me t ≡ painted (has (forest_of all)) me t₀
 
-pub left_all : (levels : ℕ) (look : ℕ → Family) (me i k : ℕ) (t : List ℕ) → 0 < length t → WF 0 (length t - 1) (forest_at levels look i k) → Left levels look (forest_at levels look i k) me i k t t
-left_all levels look me i k t some w = record { some = some; same = refl; ok = w; paints = refl }
+pub painting_first : (all : Siblings) (me : ℕ) (t : List ℕ) → 0 < length t → WF 0 (length t - 1) (forest_of all) → Painting all all me 0 t t
+painting_first all me t some w = record { left = rest_first all; some = some; same = refl; ok = w; paints = refl }
 
-module _ {levels : ℕ} {look : ℕ → Family} {F : Forest} {me at left : ℕ} {t₀ t : List ℕ} (L : Left levels look F me at left t₀ t) where
-  pub left_step : (f : Family) → 0 < left → f ≡ look at → Step levels look at left (length t - 1) f
-  left_step f h e = step levels look at left (length t - 1) f h (rw L.same L.ok) e
+module _ {all rest : Siblings} {me i : ℕ} {t₀ t : List ℕ} (P : Painting all rest me i t₀ t) where
+  module _ {younger : Siblings} {eldest : Nested} (S : Split rest eldest younger) where
+    -- the rules of the eldest and of the younger siblings, with the table's end as their bound
+    rules : let f = eldest.family in Ruled 0 (length t₀ - 1) f.l f.r f.s f.n (forest_of eldest.children) (forest_of younger)
+    rules = ruled (rw S.is at P.ok)
 
-  -- what is asked to paint the family at `at`, and what is left then
-  pub left_family : (f : Family) → 0 < left → f ≡ look at → (0 < length t) × (FitsIn (length t - 1) f × WF 0 (f.r - f.l) (kids_of levels look at f))
-  left_family f h e = (omega (arith, L), ((left_step f h e).fits, (left_step f h e).kids_ok))
+    pub painting_fits : FitsIn (length t - 1) eldest.family
+    painting_fits = rw P.same rules.fits
 
-  pub left_next : (f : Family) (at' : ℕ) (t' : List ℕ) → 0 < left → f ≡ look at → at' ≡ at + f.span → t' ≡ painted (segments_of f (inner (kids_of levels look at f))) me t
-      → Left levels look F me at' (left - 1) t₀ t'
-  unfolding has
-  left_next f at' t' h e a p =
-      let S = left_step f h e in
-      record {
-        some = L.some;
-        same = ap length p ∙ length_painted _ me t ∙ L.same;
-        ok = rw (a, ← L.same) S.rest_ok;
-        paints = rw (a, p) (painted_or (segments_of f (inner (kids_of levels look at f))) _ me t) ∙ rw S.is at L.paints;
-      }
+    pub painting_next : (t' : List ℕ) → t' ≡ painted (segments_of eldest.family (inner (forest_of eldest.children))) me t → Painting all younger me (i + 1) t₀ t'
+    unfolding has
+    painting_next t' p = record {
+      left = rest_next P.left S;
+      some = P.some;
+      same = ap length p ∙ length_painted _ me t ∙ P.same;
+      ok = wf_wider (forest_of younger) (omega arith) (omega arith) rules.rest_ok;
+      paints = rw p (painted_or (segments_of eldest.family (inner (forest_of eldest.children))) _ me t) ∙ rw S.is at P.paints;
+    }
 
-  pub left_none : left ≡ 0 → t ≡ painted (has F) me t₀
-  unfolding has
-  left_none e = sym (painted_none _ me t (λ x. rw (none_left levels look at left e) refl)) ∙ L.paints
+  pub painting_last : all.count ≤ i → (all.count ≡ 0 → ⊥) → t ≡ painted (inner (forest_of all)) me t₀
+  painting_last h some =
+      rw (inner_kids (forest_of all) (branch _ _ _ _ some)) (sym (painted_none _ me t (λ x. rw (rest_nil P.left h) (nil_has x))) ∙ P.paints)
 
 -- ---- what is selected inside a segment: all of it without children, and else what they select
 pub inner_all : (levels : ℕ) (look : ℕ → Family) (i k : ℕ) → k ≡ 0 → inner (forest_at levels look i k) ≡ (λ _. true)

@@ -1,13 +1,13 @@
 -- A decoded layout: its families stand in an array, each followed by its children, and are read back as trees.
 -- Assumes nothing: these are definitions.
-use Rattle.std.specs.Prelude.{◌≡◌, Bool, true, List, [], ◌∷◌, ℕ, zero, suc, ◌+◌, ◌-◌, ◌*◌, ◌^◌, ◌≤◌, ◌<◌, get_or, replicate}
+use Rattle.std.specs.Prelude.{◌≡◌, Bool, true, List, ℕ, zero, suc, ◌+◌, ◌≤◌, ◌<◌, get_or}
 use Rattle.counting.specs.Gather.{tabulated}
 use Rattle.families.specs.declared.Family.{Family}
 use Rattle.families.specs.declared.Element.{Element}
 use Rattle.families.specs.declared.Layout.{Layout}
 use Rattle.families.specs.Forest.{Forest, nil, node, in_segments, has, Fits, WF}
 
--- one family by itself: its segments with what `inner` selects in each, those segments whole, and the sheet rules, also with its children
+-- one family by itself: its segments with what `inner` selects in each, those segments whole, and the sheet rules
 abbrev pub segments_of : Family → (inner : ℕ → Bool) → ℕ → Bool
 segments_of f inner x = in_segments inner f.l f.r f.s f.n x
 
@@ -16,9 +16,6 @@ leaf_of f x = segments_of f (λ _. true) x
 
 abbrev pub FitsIn : (bound : ℕ) → Family → Type 0
 FitsIn bound f = Fits 0 bound f.l f.r f.s f.n
-
-abbrev pub Nested : Family → (kids : Forest) → Type 0
-Nested f kids = FitsIn (2 ^ 32 - 1) f × WF 0 (f.r - f.l) kids
 
 -- what unused room holds: a family with no segment, which no sheet rule admits, and an element with no family
 abbrev pub no_family : Family
@@ -72,19 +69,3 @@ pub record LayoutOk (levels bound : ℕ) (t : Layout) : Type 0 where
   pub used : InUse t.families (family_in t.family)
   pub some : (e : ℕ) → e < t.elements → 1 ≤ (element_of t e).tops
   pub ruled : (e : ℕ) → e < t.elements → WF 0 bound (tree_of levels t e)
-
--- ---- the families' numbers in a row, six a family, so that they can be lent. n stands last: a family that has a segment stands whole
-unfoldable pub row_of : List Family → List ℕ
-row_of [] = []
-row_of (f ∷ fs) = f.children ∷ f.span ∷ f.l ∷ f.r ∷ f.s ∷ f.n ∷ row_of fs
-
--- a row has room for 256 families, and a row of zeros holds none
-abbrev pub ROW : ℕ
-ROW = 6 * 256
-
-abbrev pub empty_row : List ℕ
-empty_row = replicate ROW 0
-
-abbrev pub family_at : List ℕ → ℕ → Family
-family_at row i =
-    record { children = get_or row (6 * i) 0; span = get_or row (6 * i + 1) 0; l = get_or row (6 * i + 2) 0; r = get_or row (6 * i + 3) 0; s = get_or row (6 * i + 4) 0; n = get_or row (6 * i + 5) 0 }

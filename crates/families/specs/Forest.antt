@@ -63,6 +63,13 @@ unfoldable pub WF : (from bound : ℕ) → Forest → Type 0
 WF from bound nil = Unit {0}
 WF from bound (node l r s n kids rest) = Fits from bound l r s n × WF 0 (r - l) kids × WF (last_byte l r s n + 1) bound rest
 
--- what the code asks of families: the sheet rules, with a bound that 32 bits hold
+-- the sheet rules, with a bound that 32 bits hold
 abbrev pub Sound : Forest → Type 0
 Sound F = WF 0 (2 ^ 32 - 1) F
+
+-- .. and with one that no table's length passes, which is what the code asks of families that are lent
+abbrev pub FARTHEST : ℕ
+FARTHEST = 2 ^ 63 - 1
+
+abbrev pub RulesKept : Forest → Type 0
+RulesKept F = WF 0 FARTHEST F

@@ -1,157 +1,173 @@
-// A list of sibling families with their children: membership, size, end, rank and inverse, by recursion on the levels.
-//
-// The families' numbers are lent as one row, six a family, so that a call on the children copies nothing.
-ghost use Rattle.std.specs.Prelude.{◌≡◌, ◌+◌, ◌-◌, ◌<◌};
-ghost use Rattle.counting.specs.Count.{count_below, nth};
-ghost use Rattle.families.specs.Forest.{has, inner, end_of, size_of, Sound};
-ghost use Rattle.families.specs.Decoded.{segments_of, family_at, forest_at, Nested};
+// A list of sibling families with their children: membership, size, end, rank, inverse and painting, by recursion on the levels.
+ghost use Rattle.families.specs.Forest.{RulesKept};
+ghost use Rattle.families.specs.Decoded.{family_in, forest_at};
+ghost use Rattle.families.specs.Props.{WF-prop};
 
-use crate::{Family, row, segments};
+use crate::nested::Nested;
+use crate::painting::paint_all;
+use crate::{Family, Layout};
 
-// Whether the families select x.
-pub fn selects(numbers: &[u32], first: usize, count: u32, levels: u32, x: u32) -> bool
-    requires { Sound (forest_at levels (family_at numbers.now) first count) }
-    ensures { result ≡ has (forest_at levels (family_at numbers.now) first count) x }
-{
-    let mut at = first;
-    let mut left = count;
-    while 0 < left {
-        let f = row::family_at(numbers, at);
-        if segments::in_segments(f, x) {
-            // no younger sibling has x: each starts after this family's last byte
-            let children = f.children;
-            if children == 0 {
-                return true;
+// Sibling families, each followed by its descendants: `count` of them from index `first` on, `levels` levels deep at most.
+// `ruled` has the bound of a table and not that of 32 bits, which `inverse` alone asks for: `owners` takes a table of any length.
+#[derive(Clone, Copy)]
+pub struct Siblings<'a> {
+    pub families: &'a [Family],
+    pub first: usize,
+    pub count: u32,
+    pub levels: u32,
+    ghost ruled: { RulesKept (forest_at levels (family_in families.now) first count) } by { WF-prop _ _ _ },
+}
+
+impl<'a> Siblings<'a> {
+    ghost use Rattle.std.specs.Prelude.{◌≡◌, ◌+◌, ◌-◌, ◌<◌, ◌≤◌, true, length};
+    ghost use Rattle.counting.specs.Count.{count_below, nth};
+    ghost use Rattle.families.specs.Forest.{has, inner, end_of, size_of, Sound, WF};
+    ghost use Rattle.families.specs.Lent.{forest_of, Split};
+    ghost use Rattle.families.specs.Owners.{painted};
+
+    // The eldest with its children, and its younger siblings.
+    pub(crate) fn split_first(&self) -> (Nested<'a>, Siblings<'a>)
+        requires { 1 ≤ self.now.count }
+        ensures { Split self.now result.0 result.1 }
+    {
+        let family = self.families[self.first];
+        let children = Siblings {
+            families: self.families,
+            first: self.first + 1,
+            count: family.children,
+            levels: self.levels - 1,
+        };
+        let younger = Siblings {
+            families: self.families,
+            first: self.first + family.span as usize,
+            count: self.count - 1,
+            levels: self.levels,
+        };
+        (Nested { family, children }, younger)
+    }
+
+    // Whether the families select x.
+    pub fn selects(&self, x: u32) -> bool
+        ensures { result ≡ has (forest_of self.now) x }
+    {
+        let mut rest = *self;
+        for _ in 0..self.count {
+            let (eldest, younger) = rest.split_first();
+            if eldest.family.covers(x) {
+                // no younger sibling has x: each starts after this family's last byte
+                return eldest.children.count == 0
+                    || eldest.children.selects(eldest.family.place(x));
             }
-            return selects(numbers, at + 1, children, levels - 1, segments::place(f, x));
+            rest = younger;
         }
-        at = row::next(f, at);
-        left -= 1;
+        false
     }
-    false
-}
 
-// How many offsets the families select.
-#[cycle(segment_size_size)]
-pub fn size(numbers: &[u32], first: usize, count: u32, levels: u32) -> u64
-    requires { Sound (forest_at levels (family_at numbers.now) first count) }
-    ensures { result ≡ size_of (forest_at levels (family_at numbers.now) first count) }
-{
-    let mut at = first;
-    let mut left = count;
-    let mut sum: u64 = 0;
-    while 0 < left {
-        let f = row::family_at(numbers, at);
-        let each = segment_size(numbers, f, at + 1, levels - 1);
-        sum += segments::counted_in_all(f, each);
-        at = row::next(f, at);
-        left -= 1;
-    }
-    sum
-}
-
-// How many offsets one segment of f selects: all of them, or what f's children at `first` select.
-#[cycle(segment_size_size)]
-pub fn segment_size(numbers: &[u32], f: Family, first: usize, levels: u32) -> u64
-    requires { Nested f (forest_at levels (family_at numbers.now) first f.children) }
-    ensures { result ≡ count_below (inner (forest_at levels (family_at numbers.now) first f.children)) (f.r - f.l + 1) }
-{
-    let children = f.children;
-    if children == 0 {
-        return segments::segment_len(f);
-    }
-    size(numbers, first, children, levels)
-}
-
-// The first offset past every family. The children do not matter: each ends in its parent's segment.
-pub fn end(numbers: &[u32], first: usize, count: u32, levels: u32) -> u64
-    requires { Sound (forest_at levels (family_at numbers.now) first count) }
-    ensures { result ≡ end_of (forest_at levels (family_at numbers.now) first count) }
-{
-    let mut at = first;
-    let mut left = count;
-    let mut end: u64 = 0;
-    while 0 < left {
-        let f = row::family_at(numbers, at);
-        let past = segments::end_of(f);
-        if end < past {
-            end = past;
+    // How many offsets the families select.
+    #[cycle(size)]
+    pub fn size(&self) -> u64
+        ensures { result ≡ size_of (forest_of self.now) }
+    {
+        let mut sum: u64 = 0;
+        let mut rest = *self;
+        for _ in 0..self.count {
+            let (eldest, younger) = rest.split_first();
+            sum += u64::from(eldest.family.n) * eldest.segment_size();
+            rest = younger;
         }
-        at = row::next(f, at);
-        left -= 1;
+        sum
     }
-    end
-}
 
-// How many offsets below x the families select.
-#[cycle(family_rank_rank)]
-pub fn rank(numbers: &[u32], first: usize, count: u32, levels: u32, x: u32) -> u64
-    requires { Sound (forest_at levels (family_at numbers.now) first count) }
-    ensures { result ≡ count_below (has (forest_at levels (family_at numbers.now) first count)) x }
-{
-    let mut at = first;
-    let mut left = count;
-    let mut sum: u64 = 0;
-    while 0 < left {
-        let f = row::family_at(numbers, at);
-        sum += family_rank(numbers, f, at + 1, levels - 1, x);
-        at = row::next(f, at);
-        left -= 1;
-    }
-    sum
-}
-
-// How many offsets below x a family selects whose children stand at `first`.
-#[cycle(family_rank_rank)]
-pub fn family_rank(numbers: &[u32], f: Family, first: usize, levels: u32, x: u32) -> u64
-    requires { Nested f (forest_at levels (family_at numbers.now) first f.children) }
-    ensures { result ≡ count_below (segments_of f (inner (forest_at levels (family_at numbers.now) first f.children))) x }
-{
-    let children = f.children;
-    if children == 0 {
-        return segments::leaf_rank(f, x);
-    }
-    let each = size(numbers, first, children, levels);
-    let reach = segments::part_before(f, x);
-    let part = rank(numbers, first, children, levels, reach);
-    segments::counted_before(f, x, each, part)
-}
-
-// The y-th offset that the families select, counted from 0.
-#[cycle(inverse_segment_inverse)]
-pub fn inverse(numbers: &[u32], first: usize, count: u32, levels: u32, y: u64) -> u32
-    requires { (Sound (forest_at levels (family_at numbers.now) first count)) × (y < size_of (forest_at levels (family_at numbers.now) first count)) }
-    ensures { let F = forest_at levels (family_at numbers.now) first count in result ≡ nth (has F) (end_of F) y }
-{
-    let mut at = first;
-    let mut left = count;
-    let mut skip = y;
-    while 0 < left {
-        let f = row::family_at(numbers, at);
-        let each = segment_size(numbers, f, at + 1, levels - 1);
-        let here = segments::counted_in_all(f, each);
-        if skip < here {
-            let inside = segment_inverse(numbers, f, at + 1, levels - 1, skip % each);
-            let k = (skip / each) as u32;
-            return f.l + k * f.s + inside;
+    // The first offset past every family. The children do not matter: each ends in its parent's segment.
+    pub fn end(&self) -> u64
+        ensures { result ≡ end_of (forest_of self.now) }
+    {
+        let mut farthest: u64 = 0;
+        let mut rest = *self;
+        for _ in 0..self.count {
+            let (eldest, younger) = rest.split_first();
+            farthest = farthest.max(eldest.family.end());
+            rest = younger;
         }
-        skip -= here;
-        at = row::next(f, at);
-        left -= 1;
+        farthest
     }
-    // never reached: y is below the size
-    0
+
+    // How many offsets below x the families select.
+    #[cycle(rank)]
+    pub fn rank(&self, x: u32) -> u64
+        ensures { result ≡ count_below (has (forest_of self.now)) x }
+    {
+        let mut sum: u64 = 0;
+        let mut rest = *self;
+        for _ in 0..self.count {
+            let (eldest, younger) = rest.split_first();
+            sum += eldest.rank(x);
+            rest = younger;
+        }
+        sum
+    }
+
+    // The y-th offset that the families select, counted from 0.
+    #[cycle(inverse)]
+    pub fn inverse(&self, y: u64) -> u32
+        requires sound { Sound (forest_of self.now) }
+        requires below { y < size_of (forest_of self.now) }
+        ensures { result ≡ nth (has (forest_of self.now)) (end_of (forest_of self.now)) y }
+    {
+        let mut skip = y;
+        let mut rest = *self;
+        for _ in 0..self.count {
+            let (eldest, younger) = rest.split_first();
+            let each = eldest.segment_size();
+            let here = u64::from(eldest.family.n) * each;
+            if skip < here {
+                let inside = eldest.inverse(skip % each);
+                return eldest.family.l + (skip / each) as u32 * eldest.family.s + inside;
+            }
+            skip -= here;
+            rest = younger;
+        }
+        // never reached: y is below the size
+        0
+    }
+
+    // Marks what the families select, or the whole table where there is none.
+    #[cycle(paint)]
+    pub fn paint(&self, table: &mut [u8], me: u8)
+        requires some { 0 < length table.old }
+        requires ruled { WF 0 (length table.old - 1) (forest_of self.now) }
+        ensures { table.new ≡ painted (inner (forest_of self.now)) me table.old }
+    {
+        if self.count == 0 {
+            paint_all(table, me);
+            return;
+        }
+        let mut rest = *self;
+        for _ in 0..self.count {
+            let (eldest, younger) = rest.split_first();
+            eldest.paint(table, me);
+            rest = younger;
+        }
+    }
 }
 
-// The y-th offset that one segment of f selects, from the segment's start: y itself, or the y-th of f's children at `first`.
-#[cycle(inverse_segment_inverse)]
-pub fn segment_inverse(numbers: &[u32], f: Family, first: usize, levels: u32, y: u64) -> u32
-    requires { (Nested f (forest_at levels (family_at numbers.now) first f.children)) × (y < count_below (inner (forest_at levels (family_at numbers.now) first f.children)) (f.r - f.l + 1)) }
-    ensures { result ≡ nth (inner (forest_at levels (family_at numbers.now) first f.children)) (f.r - f.l + 1) y }
-{
-    let children = f.children;
-    if children == 0 {
-        return y as u32;
+impl Layout {
+    ghost use Rattle.std.specs.Prelude.{◌≡◌, ◌<◌};
+    ghost use Rattle.families.specs.Decoded.{tree_of};
+    ghost use Rattle.families.specs.Lent.{forest_of};
+
+    // The families of element e.
+    pub fn siblings(&self, e: usize, levels: u32) -> Siblings<'_>
+        requires room { e < 16 }
+        requires ruled { RulesKept (tree_of levels self.now e) }
+        ensures { forest_of result ≡ tree_of levels self.now e }
+    {
+        let element = self.element[e];
+        Siblings {
+            families: &self.family,
+            first: element.first,
+            count: element.tops,
+            levels,
+        }
     }
-    inverse(numbers, first, children, levels, y)
 }

@@ -1,7 +1,6 @@
 -- The selection of an element of a layout: what it has, and that an accepted sheet gives what the code asks of it. Assumes nothing.
-use mathlib.Core.Path.{fun_ext, ◌≡◌, refl, sym, ◌∙◌}
+use mathlib.Core.Path.{◌≡◌, refl, sym, ◌∙◌}
 use mathlib.Core.Bool.{Bool, true, false}
-use mathlib.Core.List.{List}
 use mathlib.Core.Logic.{⊎_elim}
 use Prim.Native.Nat.{ℕ, zero, suc, ◌+◌, ◌^◌, ◌≤◌, ◌<◌, max}
 use native.Mathlib.Omega.{arith}
@@ -12,10 +11,9 @@ use Rattle.counting.specs.Elements.{times}
 use Rattle.counting.proofs.Cases.{same_or_not}
 use Rattle.counting.proofs.Counts.{count_stop}
 use Rattle.families.specs.declared.Layout.{Layout}
-use Rattle.families.specs.Forest.{Forest, has, end_of, size_of, Sound}
-use Rattle.families.specs.Decoded.{family_at, forest_at, element_of, tree_of, selections, row_of, LayoutOk}
-use Rattle.families.proofs.Forests.{wf_wider, size_at}
-use Rattle.families.proofs.Rows.{row_element}
+use Rattle.families.specs.Forest.{Forest, has, end_of, size_of}
+use Rattle.families.specs.Decoded.{element_of, tree_of, selections, LayoutOk}
+use Rattle.families.proofs.Forests.{size_at}
 use Rattle.families.proofs.Flats.{element_some, element_sound, element_size, element_small}
 use Rattle.sheets.specs.Reading.{Reading}
 use Rattle.sheets.proofs.Accepted.{Accepted}
@@ -42,33 +40,25 @@ size_below F n none = sym (size_at F (max n (end_of F)) (omega arith)) ∙ count
 -- ---- an element of a layout
 module _ (t : Layout) (e : ℕ) where
   -- its selection is made of its tree
-  pub families_tree : (size : ℕ) → families_of (selection_of t size e) (row_of t.family) ≡ tree_of 4 t e
+  pub families_tree : (size : ℕ) → families_of (selection_of t size e) t.family ≡ tree_of 4 t e
   unfolding selection_of
-  families_tree size = row_element 4 t e (row_of t.family) refl
+  families_tree size = refl
 
-  pub belongs_tree : (size : ℕ) → belongs (selection_of t size e) (row_of t.family) ≡ owns t.displacement size (has (tree_of 4 t e))
+  pub belongs_tree : (size : ℕ) → belongs (selection_of t size e) t.family ≡ owns t.displacement size (has (tree_of 4 t e))
   unfolding belongs selection_of
-  belongs_tree size = fun_ext (λ x. rw (families_tree size) refl)
+  belongs_tree size = refl
 
-  module _ (ok : LayoutOk 4 65535 t) (h : e < t.elements) where
-    tree_sound : Sound (tree_of 4 t e)
-    tree_sound = wf_wider (tree_of 4 t e) (omega arith) (omega arith) (ok.ruled e h)
+  -- ---- `selection_of`: what it makes of the size that `families` answers
+  module _ (ok : LayoutOk 4 65535 t) (h : e < t.elements) (F : Forest) (lent : F ≡ tree_of 4 t e) (selected : ℕ) (is : selected ≡ size_of F) where
+    pub chosen_small : selected < 2 ^ 32
+    chosen_small = omega (arith, element_small 4 65535 t ok e h F lent selected is)
 
-    -- ---- `selection_of`: what it asks of `families`, and what it makes of the answer
-    module _ (numbers : List ℕ) (row : numbers ≡ row_of t.family) where
-      pub chosen_sound : Sound (forest_at 4 (family_at numbers) (element_of t e).first (element_of t e).tops)
-      chosen_sound = element_sound 4 65535 t ok e h numbers row (omega arith)
-
-      module _ (selected : ℕ) (is : selected ≡ size_of (forest_at 4 (family_at numbers) (element_of t e).first (element_of t e).tops)) where
-        pub chosen_small : selected < 2 ^ 32
-        chosen_small = omega (arith, element_small 4 65535 t ok e h numbers row selected is)
-
-        pub chosen_is : (size : ℕ)
-            → ◌≡◌ {A = Selection}
-            (record { from = t.displacement; period = size; levels = 4; first = (element_of t e).first; tops = (element_of t e).tops; size = selected })
-            (selection_of t size e)
-        unfolding selection_of
-        chosen_is size = rw (element_size 4 65535 t ok e h numbers row selected is) refl
+    pub chosen_is : (size : ℕ)
+        → ◌≡◌ {A = Selection}
+        (record { from = t.displacement; period = size; levels = 4; first = (element_of t e).first; tops = (element_of t e).tops; size = selected })
+        (selection_of t size e)
+    unfolding selection_of
+    chosen_is size = rw (element_size 4 65535 t ok e h F lent selected is) refl
 
 -- ---- THE ELEMENTS of a pattern that they share out are selections that the code takes
 module _ (t : Layout) (size : ℕ) (P : PatternOk t size) (e : ℕ) (h : e < t.elements) where
@@ -76,11 +66,11 @@ module _ (t : Layout) (size : ℕ) (P : PatternOk t size) (e : ℕ) (h : e < t.e
   unfolding selections
   none_past x l = times_none (λ i. has (tree_of 4 t i)) 0 t.elements x (P.past x l) e (omega arith) (omega arith)
 
-  pub selection_ok : SelectionOk (selection_of t size e) (row_of t.family)
+  pub selection_ok : SelectionOk (selection_of t size e) t.family
   unfolding selection_of
   selection_ok = record {
-    sound = rw (families_tree t e size) (tree_sound t e P.ok h);
-    size = rw (families_tree t e size) (size_below (tree_of 4 t e) size none_past);
+    sound = element_sound 4 65535 t P.ok e h (omega arith);
+    size = size_below (tree_of 4 t e) size none_past;
     some = element_some 4 65535 t P.ok e h;
     short = omega (arith, P.most);
   }

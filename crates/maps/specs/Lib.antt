@@ -1,1 +1,3 @@
 pub mod Selected
+pub mod Windows
+pub mod Facts

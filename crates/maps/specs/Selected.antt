@@ -4,18 +4,19 @@ use Rattle.counting.specs.Count.{count_below}
 use Rattle.counting.specs.Periodic.{owns}
 use Rattle.counting.specs.Gather.{tabulated}
 use Rattle.counting.specs.Elements.{Elements, times}
+use Rattle.families.specs.declared.Family.{Family}
 use Rattle.families.specs.declared.Layout.{Layout}
 use Rattle.families.specs.Forest.{Forest, has, size_of, Sound}
-use Rattle.families.specs.Decoded.{family_at, forest_at, element_of, tree_of, selections, LayoutOk}
+use Rattle.families.specs.Decoded.{family_in, forest_at, element_of, tree_of, selections, LayoutOk}
 use Rattle.maps.specs.declared.Selection.{Selection}
 
--- the families that select, read from a row of their numbers
-abbrev pub families_of : Selection → (row : List ℕ) → Forest
-families_of s row = forest_at s.levels (family_at row) s.first s.tops
+-- the families that select, with their children
+abbrev pub families_of : Selection → List Family → Forest
+families_of s families = forest_at s.levels (family_in families) s.first s.tops
 
 -- THE FILE OFFSETS of a selection
-unfoldable pub belongs : Selection → (row : List ℕ) → ℕ → Bool
-belongs s row x = owns s.from s.period (has (families_of s row)) x
+unfoldable pub belongs : Selection → List Family → ℕ → Bool
+belongs s families x = owns s.from s.period (has (families_of s families)) x
 
 -- x is byte y of what p selects: it is selected, and y offsets before it are
 abbrev pub Byte : (p : ℕ → Bool) → (y x : ℕ) → Type 0
@@ -23,9 +24,9 @@ Byte p y x = (p x ≡ true) × (count_below p x ≡ y)
 
 -- what the code asks of a selection: the sheet rules; its size, which is the count of one period; and a period so short that byte 2^40 still has a
 -- file offset that 64 bits hold
-pub record SelectionOk (s : Selection) (row : List ℕ) : Type 0 where
-  pub sound : Sound (families_of s row)
-  pub size : s.size ≡ count_below (has (families_of s row)) s.period
+pub record SelectionOk (s : Selection) (families : List Family) : Type 0 where
+  pub sound : Sound (families_of s families)
+  pub size : s.size ≡ count_below (has (families_of s families)) s.period
   pub some : 1 ≤ s.size
   pub short : s.period ≤ 2 ^ 23
 

@@ -1,17 +1,20 @@
 // Maps: offsets between the file, the subfile of one selection of it, and a tray. It knows nothing of refusals: what it asks, an accepted sheet gives.
 //
-// `mapping` says whether a file offset is selected, what rank it has, which file offset has a rank, and where a byte of a subfile stands in a tray.
+// `subfile` says whether a selection has a file offset, what rank it has, which file offset has a rank, and how many bytes a window has; `mapping` makes
+// selections and subfiles, and says where a byte of a subfile stands in a tray; `window` is a window of the file.
 #![tactic(auto)]
 
-use families::FileOffset;
-
 mod mapping;
+mod subfile;
+mod window;
 
-pub use mapping::{belongs_to, file_inverse, file_rank, selection_of, tray_place};
+pub use mapping::{selection_of, subfile_of, tray_place};
+pub use subfile::Subfile;
+pub use window::Window;
 
-// A periodic selection: from `from` on, again every `period`, what the `tops` families at index `first` of a row select, `levels` levels deep at
+// A periodic selection: from `from` on, again every `period`, what the `tops` families at index `first` of a list select, `levels` levels deep at
 // most; `size` offsets of every period.
-#[derive(Clone, Copy)]
+#[derive(Clone, Copy, Debug, PartialEq, Eq)]
 pub struct Selection {
     pub from: u32,
     pub period: u32,
@@ -19,11 +22,4 @@ pub struct Selection {
     pub first: usize,
     pub tops: u32,
     pub size: u32,
-}
-
-// A window of the file: from `start` on, up to but not including `end`.
-#[derive(Clone, Copy)]
-pub struct Window {
-    pub start: FileOffset,
-    pub end: FileOffset,
 }

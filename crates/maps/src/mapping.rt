@@ -1,59 +1,10 @@
-// Mapping: whole periods by division, and the place in one by the families.
+// Mapping: the selection of an element of a layout, and the place of a subfile's byte in a tray.
 ghost use Rattle.std.specs.Prelude.{◌≡◌, ◌+◌, ◌-◌, ◌^◌, ◌≤◌, ◌<◌};
-ghost use Rattle.counting.specs.Count.{count_below};
-ghost use Rattle.families.specs.Decoded.{row_of, LayoutOk};
-ghost use Rattle.maps.specs.Selected.{belongs, Byte, SelectionOk, selection_of};
+ghost use Rattle.families.specs.Decoded.{LayoutOk};
+ghost use Rattle.maps.specs.Selected.{PatternOk, selection_of};
 
-use crate::Selection;
-use families::{FileOffset, Layout, SubfileOffset, TrayPlace};
-
-// Whether the selection has file offset x.
-pub fn belongs_to(numbers: &[u32], s: Selection, x: FileOffset) -> bool
-    requires { SelectionOk s numbers.now }
-    ensures { result ≡ belongs s numbers.now x.0 }
-{
-    let from = s.from as u64;
-    let period = s.period as u64;
-    let at = x.0;
-    if at < from {
-        return false;
-    }
-    let past = at - from;
-    families::selects(numbers, s.first, s.tops, s.levels, (past % period) as u32)
-}
-
-// How many file offsets below x the selection has.
-pub fn file_rank(numbers: &[u32], s: Selection, x: FileOffset) -> SubfileOffset
-    requires { SelectionOk s numbers.now }
-    ensures { result.0 ≡ count_below (belongs s numbers.now) x.0 }
-{
-    let from = s.from as u64;
-    let period = s.period as u64;
-    let size = s.size as u64;
-    let end = x.0;
-    if end < from {
-        return SubfileOffset(0);
-    }
-    let past = end - from;
-    let whole = past / period;
-    let part = families::rank(numbers, s.first, s.tops, s.levels, (past % period) as u32);
-    SubfileOffset(whole * size + part)
-}
-
-// The file offset of byte y of the selection.
-pub fn file_inverse(numbers: &[u32], s: Selection, y: SubfileOffset) -> FileOffset
-    requires fact_1 { SelectionOk s numbers.now }
-    requires fact_2 { y.0 < 2 ^ 40 }
-    ensures { Byte (belongs s numbers.now) y.0 result.0 }
-{
-    let from = s.from as u64;
-    let period = s.period as u64;
-    let size = s.size as u64;
-    let byte = y.0;
-    let whole = byte / size;
-    let place = families::inverse(numbers, s.first, s.tops, s.levels, byte % size);
-    FileOffset(from + (whole * period + place as u64))
-}
+use crate::{Selection, Subfile};
+use families::{Layout, SubfileOffset, TrayPlace};
 
 // The place in a tray of byte y of a subfile. The subfile's part of the tray starts at `part`, with byte `first`: the window may start late.
 pub fn tray_place(part: TrayPlace, first: SubfileOffset, y: SubfileOffset) -> TrayPlace
@@ -64,23 +15,32 @@ pub fn tray_place(part: TrayPlace, first: SubfileOffset, y: SubfileOffset) -> Tr
 }
 
 // What element `element` of a layout selects of the file, where the layout's pattern has `size` offsets.
-pub fn selection_of(layout: Layout, size: u32, element: usize, numbers: &[u32]) -> Selection
-    requires fact_1 { numbers.now ≡ row_of layout.family }
-    requires fact_2 { LayoutOk 4 65535 layout }
-    requires fact_3 { element < layout.elements }
-    ensures { result ≡ selection_of layout size element }
+pub fn selection_of(layout: &Layout, size: u32, element: usize) -> Selection
+    requires ruled { LayoutOk 4 65535 layout.now }
+    requires there { element < layout.now.elements }
+    ensures { result ≡ selection_of layout.now size element }
 {
-    let from = layout.displacement;
     let chosen = layout.element[element];
-    let first = chosen.first;
-    let tops = chosen.tops;
-    let selected = families::size(numbers, first, tops, 4) as u32;
+    let selected = layout.siblings(element, 4).size() as u32;
     Selection {
-        from,
+        from: layout.displacement,
         period: size,
         levels: 4,
-        first,
-        tops,
+        first: chosen.first,
+        tops: chosen.tops,
         size: selected,
+    }
+}
+
+// The subfile of element `element` of a layout whose pattern is shared out.
+pub fn subfile_of<'a>(layout: &'a Layout, size: u32, element: usize) -> Subfile<'a>
+    requires shared { PatternOk layout.now size }
+    requires there { element < layout.now.elements }
+    ensures selection { result.selection ≡ selection_of layout.now size element }
+    ensures families { result.families.now ≡ layout.now.family }
+{
+    Subfile {
+        selection: selection_of(layout, size, element),
+        families: &layout.family,
     }
 }

@@ -3,11 +3,12 @@ use mathlib.Core.Path.{◌≡◌, refl, sym, ap, ap₂, ◌∙◌}
 use mathlib.Core.Bool.{Bool}
 use mathlib.Core.List.{List, [], ◌∷◌, ◌++◌, append_assoc}
 use mathlib.Core.Logic.{⊎_elim}
-use Prim.Native.Nat.{ℕ, suc, ◌+◌, ◌*◌, ◌≤◌, ◌<◌}
+use Prim.Native.Nat.{ℕ, suc, ◌+◌, ◌-◌, ◌*◌, ◌≤◌, ◌<◌}
 use native.Mathlib.Nat.{zero-add}
 use native.Mathlib.Omega.{arith}
-use lib.ListN.{length, set, take, drop, length-append, length-drop, length-set}
-use lib.Seq.{sets-eq, drop-drop, take-append_seam, drop-append-add}
+use lib.ListN.{length, take, drop, length-append, length-take, length-drop}
+use borrow.Rule.Slice.PartMut.{mid_of, post_of, put_mid, same_len_mid, Post-is}
+use lib.Seq.{drop-drop, take-append_seam, drop-append-add}
 use borrow.Author.Tests.{lt-ltb, le-ltb, le-leb, lt-leb}
 use Rattle.counting.specs.Runs.{Run}
 use Rattle.counting.proofs.Cases.{lt_or_le}
@@ -19,24 +20,24 @@ module _ (slots : List ℕ) (n : ℕ) where
   unfolding with_run
   none_written four h = rw (le-ltb n (capacity slots) h) refl
 
-  -- four slots, one after the other
-  pub four_written : (a b c d : ℕ) → n < capacity slots
-      → set (set (set (set slots (4 * n) a) (4 * n + 1) b) (4 * n + 2) c) (4 * n + 3) d ≡ with_run slots n (a ∷ b ∷ c ∷ d ∷ [])
+  -- four slots, written as one part of the list
+  pub four_written : (four : List ℕ) (written : List ℕ) → written ≡ four → n < capacity slots → put_mid (4 * n) (4 * n + 4 - 4 * n) slots written ≡ with_run slots n four
   unfolding with_run
-  four_written a b c d h =
-      let four = a ∷ b ∷ c ∷ d ∷ [] in
-      let one : 4 * n + 1 ≡ suc (4 * n) = omega arith in
-      let two : 4 * n + 2 ≡ suc (suc (4 * n)) = omega arith in
-      let three : 4 * n + 3 ≡ suc (suc (suc (4 * n))) = omega arith in
-      let long : 4 * n + length four ≡ 4 * n + 4 = omega arith in
-      rw (lt-ltb n (capacity slots) h, one, two, three)
-      (sets-eq four slots (4 * n) (omega arith) ∙ ap (λ (k : ℕ). take (4 * n) slots ++ four ++ drop k slots) long)
+  four_written four written is h =
+      rw (lt-ltb n (capacity slots) h, is)
+      (sym (append_assoc (take (4 * n) slots) four (post_of (4 * n) (4 * n + 4 - 4 * n) slots))
+      ∙ ap (λ (after : List ℕ). take (4 * n) slots ++ four ++ after) (Post-is (4 * n) (4 * n + 4) slots (omega arith)))
 
   pub length_with_run : (a b c d : ℕ) → length (with_run slots n (a ∷ b ∷ c ∷ d ∷ [])) ≡ length slots
-  length_with_run a b c d = ⊎_elim
-      (λ h. ap length (sym (four_written a b c d h)) ∙ simp length-set)
-      (λ h. ap length (sym (none_written (a ∷ b ∷ c ∷ d ∷ []) h)))
+  length_with_run a b c d =
+      let four = a ∷ b ∷ c ∷ d ∷ [] in
+      ⊎_elim
+      (λ h. ap length (sym (four_written four four refl h)) ∙ same_len_mid (4 * n) (4 * n + 4 - 4 * n) slots four (mid_long h))
+      (λ h. ap length (sym (none_written four h)))
       (lt_or_le n (capacity slots))
+    where
+      mid_long : n < capacity slots → 4 ≡ length (mid_of (4 * n) (4 * n + 4 - 4 * n) slots)
+      mid_long h = simp (length-take, length-drop) (omega arith)
 
 -- ---- all of them
 module _ (p q : ℕ → Bool) where

@@ -1,15 +1,14 @@
 -- One side of a walk: what its place and its rank mean, and one offset further. Assumes nothing.
 use mathlib.Core.Path.{◌≡◌, refl, sym}
-use mathlib.Core.Bool.{◌&&◌}
 use mathlib.Core.List.{List}
 use mathlib.Core.Logic.{⊎_elim}
-use Prim.Native.Nat.{ℕ, ◌+◌, ◌-◌, ◌≤◌, ◌<◌}
+use Prim.Native.Nat.{ℕ, ◌+◌, ◌-◌, ◌≤◌}
 use native.Mathlib.Nat.{mod-lt}
 use native.Mathlib.Numerals.{add-one}
 use native.Mathlib.Omega.{arith}
 use lib.Dec.{eqb}
 use lib.ListN.{get_or}
-use borrow.Author.Tests.{eq-eqb, ne_eqb, le-leb, lt-ltb, le-ltb}
+use borrow.Author.Tests.{eq-eqb, ne_eqb, le-leb}
 use Rattle.counting.specs.Count.{bit}
 use Rattle.counting.proofs.Cases.{lt_or_le}
 use Rattle.counting.proofs.Counts.{count_suc, count_le}
@@ -18,29 +17,12 @@ use Rattle.maps.specs.declared.Selection.{Selection}
 use Rattle.runs.specs.declared.walks.Side.{Side}
 use Rattle.runs.specs.Walking.{marked, Marks, tabled, Stands, next_side}
 
--- ---- marks are 0 or 1, so they count, and two of them make 2 where both are 1
+-- ---- marks are 0 or 1, so they count
 mark_bit : (v : ℕ) → v ≤ 1 → bit (eqb v 1) ≡ v
 mark_bit v h = ⊎_elim
     (λ l. rw (ne_eqb v 1 (λ e. omega arith)) (omega arith))
     (λ l. rw (eq-eqb v 1 (omega arith)) (omega arith))
     (lt_or_le v 1)
-
-pub marks_sum : (v w : ℕ) → v ≤ 1 → w ≤ 1 → eqb (v + w) 2 ≡ (eqb v 1 && eqb w 1)
-marks_sum v w h k = ⊎_elim
-    (λ l. rw (ne_eqb v 1 (λ e. omega arith), ne_eqb (v + w) 2 (λ e. omega arith)) refl)
-    (λ l. ⊎_elim
-    (λ m. rw (eq-eqb v 1 (omega arith), ne_eqb w 1 (λ e. omega arith), ne_eqb (v + w) 2 (λ e. omega arith)) refl)
-    (λ m. rw (eq-eqb v 1 (omega arith), eq-eqb w 1 (omega arith), eq-eqb (v + w) 2 (omega arith)) refl)
-    (lt_or_le w 1))
-    (lt_or_le v 1)
-
--- ---- the two ways of `next_side`
-pub next_is : (table : List ℕ) (period : ℕ) (t : Side) (place : ℕ) → (t.place + 1 < period → place ≡ t.place + 1) → (period ≤ t.place + 1 → place ≡ 0)
-    → ◌≡◌ {A = Side} (record { place = place; rank = record { 0 = t.rank.0 + get_or table t.place 0 } }) (next_side table period t)
-next_is table period t place inside around = ⊎_elim
-    (λ l. rw (inside l, lt-ltb (t.place + 1) period l) refl)
-    (λ l. rw (around l, le-ltb (t.place + 1) period l) refl)
-    (lt_or_le (t.place + 1) period)
 
 -- ---- a side that stands at x
 module _ {s : Selection} {table : List ℕ} {x : ℕ} {t : Side} (S : Stands s table x t) where

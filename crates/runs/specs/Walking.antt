@@ -2,34 +2,29 @@
 use Rattle.std.specs.Prelude.{◌≡◌, Bool, true, false, not, cond, List, ℕ, ◌+◌, ◌-◌, ◌%◌, ◌^◌, ◌≤◌, ◌<◌, ltb, eqb, length, get_or}
 use Rattle.counting.specs.Count.{count_below, stretch}
 use Rattle.counting.specs.Periodic.{owns}
+use Rattle.families.specs.declared.Family.{Family}
 use Rattle.families.specs.Forest.{WF}
 use Rattle.maps.specs.declared.Selection.{Selection}
-use Rattle.maps.specs.declared.Window.{Window}
 use Rattle.maps.specs.Selected.{families_of, belongs, SelectionOk}
 use Rattle.runs.specs.declared.walks.Side.{Side}
 use Rattle.runs.specs.declared.walks.Walk.{Walk}
 use Rattle.runs.specs.Listing.{both}
 
 -- a table of n places has one for every offset of the families, and for every place of a period
-pub record FitsTable (s : Selection) (row : List ℕ) (n : ℕ) : Type 0 where
-  pub ruled : WF 0 (n - 1) (families_of s row)
+pub record FitsTable (s : Selection) (families : List Family) (n : ℕ) : Type 0 where
+  pub ruled : WF 0 (n - 1) (families_of s families)
   pub period : s.period ≤ n
 
--- what the code asks of a selection whose families stand in `row`, where a window starts at `start`
-pub record SideOk (s : Selection) (row : List ℕ) (n start : ℕ) : Type 0 where
-  pub ok : SelectionOk s row
-  pub fits : FitsTable s row n
+-- what the code asks of a selection that is made of some families, where a window starts at `start`
+pub record SideOk (s : Selection) (families : List Family) (n start : ℕ) : Type 0 where
+  pub ok : SelectionOk s families
+  pub fits : FitsTable s families n
   pub after : s.from ≤ start
 
--- .. and of a window
-pub record WindowOk (w : Window) : Type 0 where
-  pub ordered : w.start.0 ≤ w.end.0
-  pub near : w.end.0 ≤ 2 ^ 40
-
 -- t says where x stands in a selection: its place in a period, and its rank
-pub record SideAt (s : Selection) (row : List ℕ) (x : ℕ) (t : Side) : Type 0 where
+pub record SideAt (s : Selection) (families : List Family) (x : ℕ) (t : Side) : Type 0 where
   pub place : t.place ≡ (x - s.from) % s.period
-  pub rank : t.rank.0 ≡ count_below (belongs s row) x
+  pub rank : t.rank.0 ≡ count_below (belongs s families) x
 
 -- ---- a table of one period: 1 where the place is selected, and 0 elsewhere
 abbrev pub marked : (table : List ℕ) → ℕ → Bool

@@ -43,9 +43,6 @@ row_with_kids f kids row =
 pub families_read : (at k : ℕ) → (at + 22 * k - at) / 22 ≡ k
 families_read at k = omega arith
 
-pub span_most : (at place k room : ℕ) → place ≡ at + 22 * k → k ≤ room → (place - at) / 22 ≤ room
-span_most at place k room e h = omega arith
-
 -- ---- no children where no level is left for them
 pub children_deep : (levels k : ℕ) → k < 65536 → (levels ≤ 1 → k ≡ 0) → k ≤ 65535 * (levels - 1)
 children_deep levels k h d = ⊎_elim (λ (l : 1 < levels). omega arith) (λ (l : levels ≤ 1). omega (arith, d l)) (lt_or_le 1 levels)

@@ -46,8 +46,12 @@ pub fn read_elements(
     done: Progress,
     numbers: &mut [u32],
 ) -> Result<Progress, Refused>
-    requires { (done.place ≤ length sheet.now) × ((done.elements + count ≤ 16) × ((done.families ≤ 256) × (length numbers.old ≡ 6 * (256 - done.families)))) }
-    ensures { (Progressed (elements_from sheet.now (256 - done.families) count done.place) done result) × (WrittenAll (elements_from sheet.now (256 - done.families) count done.place) numbers.old numbers.new) }
+    requires inside { done.place ≤ length sheet.now }
+    requires elements { done.elements + count ≤ 16 }
+    requires families { done.families ≤ 256 }
+    requires row { length numbers.old ≡ 6 * (256 - done.families) }
+    ensures progress { Progressed (elements_from sheet.now (256 - done.families) count done.place) done result }
+    ensures row { WrittenAll (elements_from sheet.now (256 - done.families) count done.place) numbers.old numbers.new }
 {
     if count == 0 {
         return Ok(done);

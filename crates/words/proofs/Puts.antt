@@ -1,13 +1,15 @@
 -- Pieces put into a text one behind the other. Assumes nothing.
 use mathlib.Core.Path.{◌≡◌, refl, sym, ap, ◌∙◌}
 use mathlib.Core.List.{List, [], ◌∷◌, ◌++◌, append-nil, append_assoc}
-use Prim.Native.Nat.{ℕ, zero, suc, ◌+◌, ◌-◌, ◌/◌, ◌%◌, ◌≤◌, ◌<◌}
+use Prim.Native.Nat.{ℕ, ◌+◌, ◌%◌, ◌^◌, ◌≤◌, ◌<◌}
 use native.Mathlib.Numerals.{add-one}
 use native.Mathlib.Omega.{arith}
 use borrow.Author.Tests.{lt-ltb, le-ltb}
 use lib.ListN.{length, take, set, length-set}
 use lib.Seq.{paste, length-paste, take-paste, take-length, take-suc-set}
-use Rattle.words.specs.Texts.{decimal_in, Put}
+use Rattle.std.specs.Fmt as Fmt
+use Rattle.std.proofs.lemmas.Fmt.{AppendsLastDigit, decimal_from_appends, length-decimal-le}
+use Rattle.words.specs.Texts.{decimal_in, decimal, Put}
 
 -- nothing is put
 pub put_none : (most at : ℕ) (text : List ℕ) → Put [] most at at text text
@@ -42,20 +44,19 @@ pub ◌then◌ : {p q : List ℕ} {j k at m r : ℕ} {before between after : Lis
 pub put_within : {p : List ℕ} {j at r : ℕ} {before after : List ℕ} (k : ℕ) → j ≤ k → Put p j at r before after → Put p k at r before after
 put_within k h x = record { text = x.text; short = omega (arith, x.short); kept = x.kept }
 
--- ---- a number: no digits, one, and the last one behind the others
-pub put_nothing : (k n : ℕ) {at : ℕ} → k ≡ 0 → (text : List ℕ) → Put (decimal_in k n) k at at text text
+-- ---- a number
+one_more : AppendsLastDigit decimal_in
 unfolding decimal_in
-put_nothing k n none text = rw none (put_none 0 _ text)
+one_more =
+    record {
+      one = λ k n small. let e : n % 10 ≡ n = omega arith in rw (lt-ltb n 10 small, e) refl;
+      more = λ k n large. rw (le-ltb n 10 large) refl;
+    }
 
-pub put_digit : (k n : ℕ) {at r : ℕ} {before after : List ℕ} → 0 < k → n < 10 → Put ((48 + n) ∷ []) 1 at r before after → Put (decimal_in k n) k at r before after
-unfolding decimal_in
-put_digit zero n some h x = absurd (omega arith)
-put_digit (suc k) n some h x = let e : n % 10 ≡ n = omega arith in rw (lt-ltb n 10 h, e) (put_within (suc k) (omega arith) x)
+-- what the library writes for a number of 64 bits is its decimal
+pub printed : (n : ℕ) → n < 2 ^ 64 → decimal n ≡ Fmt.decimal n
+printed n small = decimal_from_appends decimal_in one_more 20 n small (length-decimal-le 20 n (omega arith) (omega arith) small)
 
-pub put_last : (k n : ℕ) {at end r : ℕ} {before between after : List ℕ} → 0 < k → 10 ≤ n → Put (decimal_in (k - 1) (n / 10)) (k - 1) at end before between
-    → Put ((48 + n % 10) ∷ []) 1 end r between after → Put (decimal_in k n) k at r before after
-unfolding decimal_in
-put_last zero n some h x y = absurd (omega arith)
-put_last (suc k) n some h x y =
-    let e : suc k - 1 ≡ k = omega arith in
-    rw (le-ltb n 10 h) (put_within (suc k) (omega arith) (rw e at x then y))
+pub put_printed : (n : ℕ) {at r : ℕ} {before after : List ℕ} → n < 2 ^ 64
+    → Put (Fmt.decimal n) (length (Fmt.decimal n)) at r before after → Put (decimal n) 20 at r before after
+put_printed n small x = rw (printed n small) (put_within 20 (length-decimal-le 20 n (omega arith) (omega arith) small) x)

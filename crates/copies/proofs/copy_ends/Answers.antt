@@ -5,9 +5,8 @@ use Rattle.copies.proofs.Chunks.{chunk}
 use Rattle.copies.proofs.copy_ends.Goals as goal
 
 pub returns : goal.returns
-returns c =
+returns g c =
     let s = c.args in
-    let first = c.copy_chunk.ensures in
-    let last = c.copy_chunk-2.ensures in
-    chunk s.src.now s.dst.now s.from s.to s.n (omega arith) (omega arith) s.chunk (s.n - s.chunk) s.chunk first last
-    (omega arith) (omega arith) (omega arith)
+    let size = g.row.CHUNK in
+    chunk s.src.now s.dst.now s.from s.to s.n c.requires.reads c.requires.writes size (s.n - size) size c.copy_chunk.ensures c.copy_chunk-2.ensures
+    (omega (arith, c.requires.one)) (omega (arith, c.requires.two)) c.requires.one

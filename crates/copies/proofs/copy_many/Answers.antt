@@ -1,19 +1,17 @@
--- `copy_many` meets its contract. The loop's invariant: the first `done` bytes are copied. The last chunk starts among them. Assumes nothing.
-use Prim.Native.Nat.{◌-◌}
+-- `copy_many` meets its contract. The loop's invariant: so many chunks are copied. The last chunk starts among them. Assumes nothing.
+use Rattle.std.proofs.Common.{◌≡◌, ◌+◌, ◌-◌, ◌*◌}
 use native.Mathlib.Omega.{arith}
-use Rattle.copies.proofs.Chunks.{chunk, none_yet, more}
+use Rattle.copies.proofs.Chunks.{chunk, more}
 use Rattle.copies.proofs.copy_many.Goals as goal
 
-pub loop-done-init : goal.loop-done-init
-loop-done-init c = none_yet _ _ _ _ _
-
-pub loop-done-preserved : goal.loop-done-preserved
-loop-done-preserved c = more c.loop-done.invariant 64 c.copy_chunk.ensures (omega arith) (omega arith) (omega arith)
+pub loop-chunk-preserved : goal.loop-chunk-preserved
+loop-chunk-preserved c =
+    let e : 64 * (c.loop-chunk.chunk + 1) ≡ 64 * c.loop-chunk.chunk + 64 = omega arith in
+    rw e (more c.loop-chunk.invariant 64 c.copy_chunk.ensures c.requires.reads c.requires.writes (omega arith))
 
 pub returns : goal.returns
 returns c =
     let s = c.args in
-    let l = c.loop-done in
-    let last = c.copy_chunk-2.ensures in
-    chunk s.src.now s.dst.now s.from s.to s.n (omega arith) (omega arith) l.done (s.n - 64) 64 l.invariant.copied last
-    (omega arith) (omega arith) (omega arith)
+    let l = c.loop-chunk in
+    chunk s.src.now s.dst.now s.from s.to s.n c.requires.reads c.requires.writes (64 * l.chunk) (s.n - 64) 64 l.invariant.copied c.copy_chunk-2.ensures
+    (omega arith) (omega arith) l.invariant.within

@@ -2,8 +2,6 @@
 use mathlib.Core.Path.{◌≡◌, ap, ◌∙◌}
 use mathlib.Core.List.{List, [], ◌∷◌}
 use Prim.Native.Nat.{ℕ, ◌+◌}
-use native.Mathlib.Omega.{arith}
-use lib.ListN.{length-set}
 use Rattle.runs.specs.Listing.{filled, with_run}
 use Rattle.runs.proofs.Fillings.{none_written, four_written}
 use Rattle.runs.proofs.listing.add.Goals as goal
@@ -12,16 +10,7 @@ use Rattle.runs.proofs.listing.add.Goals.{Joined-next-list, else-next-list, then
 -- what stands in the list where the two ways meet
 written : (c : Joined-next-list)
     → let a = c.args in c.if-next-list.list ≡ with_run a.list.now a.runs (a.walk.x.0 ∷ a.len ∷ a.walk.one.rank.0 ∷ a.walk.two.rank.0 ∷ [])
-written c = elim c.if-next-list.branch [ then-next-list w ↦ w.list-is ∙ four_written _ _ _ _ _ _ w.if-next-list.true | else-next-list w ↦ w.list-is ∙ none_written _ _ _ w.if-next-list.false ]
-
-pub bounds-list-at-then-next-list : goal.bounds-list-at-then-next-list
-bounds-list-at-then-next-list c = simp length-set (omega arith)
-
-pub bounds-list-at-then-next-list-2 : goal.bounds-list-at-then-next-list-2
-bounds-list-at-then-next-list-2 c = simp length-set (omega arith)
-
-pub bounds-list-at-then-next-list-3 : goal.bounds-list-at-then-next-list-3
-bounds-list-at-then-next-list-3 c = simp length-set (omega arith)
+written c = elim c.if-next-list.branch [ then-next-list w ↦ w.list-is ∙ four_written _ _ _ _ w.copy_from_slice.ensures.after w.if-next-list.true | else-next-list w ↦ w.list-is ∙ none_written _ _ _ w.if-next-list.false ]
 
 pub returns : goal.returns
 returns c = ap (λ (slots : List ℕ). filled slots (c.args.runs + 1)) (written c)

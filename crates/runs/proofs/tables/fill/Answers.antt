@@ -1,11 +1,13 @@
 -- `fill` meets its contract. Assumes nothing.
 use mathlib.Core.Path.{refl}
-use Rattle.runs.proofs.Marked.{fill_asks, fill_marks}
+use Rattle.runs.proofs.Marked.{fill_some, fill_marks}
 use Rattle.runs.proofs.tables.fill.Goals as goal
 
-pub paint-requires : goal.paint-requires
-paint-requires c = fill_asks c.requires.fact_1 c.requires.fact_2
+pub paint-requires-clause-some : goal.paint-requires-clause-some
+paint-requires-clause-some c = fill_some c.args.subfile.now.ok c.requires.fits
+
+pub paint-requires-clause-ruled : goal.paint-requires-clause-ruled
+paint-requires-clause-ruled c = rw c.siblings.ensures c.requires.fits.ruled
 
 pub returns : goal.returns
-returns c =
-    fill_marks c.requires.fact_1 c.requires.fact_2 _ _ refl c.requires.fact_3 c.paint.ensures
+returns c = fill_marks c.args.subfile.now.ok c.requires.fits _ _ refl c.requires.zeros (rw c.siblings.ensures at c.paint.ensures)

@@ -30,7 +30,9 @@ families-step : (t : ℕ) (c : In_ok-step t)
     → let a = c.args in
     let R = families_of a.sheet.now (256 - a.done.families) a.done.place in
     Stepped (a.done.place + 6) 0 R (Ok c.in_ok-step.step) × Written R a.numbers.now c.read_siblings.new.numbers
-families-step t c = rw (c.top_limits-limits.ensures, c.le16_at-tops.ensures.number) at c.in_ok-step.ensures
+families-step t c =
+    let e = rw (c.top_limits-limits.ensures, c.le16_at-tops.ensures.number) at c.in_ok-step.ensures in
+    (e.step, e.row)
 
 taken_at : (t : ℕ) (c : In_ok-step t)
     →
@@ -52,29 +54,36 @@ row_room t c =
     omega (arith, T.span, T.fits, long)
 
 pub returns-then-count-eq0 : goal.returns-then-count-eq0
-returns-then-count-eq0 t c = progress_none _ _ _ _ c.if-count-eq0.true _ _
+returns-then-count-eq0 t c = let none = progress_none _ _ _ _ c.if-count-eq0.true _ _ in record { progress = none.0; row = none.1 }
 
 pub returns-in_err-check_record : goal.returns-in_err-check_record
 returns-in_err-check_record t c =
     let a = c.args in
     let p = err_from_is_err_and c.from_residual.result c.from_residual.ensures.1 in
     let e = rw c.top_limits-limits.ensures at c.in_err-check_record.ensures in
-    rw (p.1, p.2) (refused_on_all _ _ c.in_err-check_record.field-0.0 (element_fault_read a.sheet.now (256 - a.done.families) a.count a.done.place (omega arith) c.in_err-check_record.field-0.0 e) _ _)
+    let on = refused_on_all _ _ c.in_err-check_record.field-0.0 (element_fault_read a.sheet.now (256 - a.done.families) a.count a.done.place (omega arith) c.in_err-check_record.field-0.0 e) _ _ in
+    rw (p.1, p.2) (record { progress = on.0; row = on.1 })
 
 pub le16_at-tops-requires : goal.le16_at-tops-requires
 le16_at-tops-requires t c = omega (arith, (there-at t (goal.at.le16_at-tops-requires t c).In_ok-check_record).0)
 
 pub read_siblings-requires : goal.read_siblings-requires
 read_siblings-requires t c =
-    ((there-at t (goal.at.read_siblings-requires t c).In_ok-check_record).0, (omega (arith, c.le16_at-tops.ensures.short), rw c.top_limits-limits.ensures (omega arith, omega arith)))
+    record {
+      inside = (there-at t (goal.at.read_siblings-requires t c).In_ok-check_record).0;
+      few = omega (arith, c.le16_at-tops.ensures.short);
+      room = rw c.top_limits-limits.ensures (omega arith);
+      row = rw c.top_limits-limits.ensures c.requires.row;
+    }
 
 pub returns-in_err-step : goal.returns-in_err-step
 returns-in_err-step t c =
     let a = c.args in
     let p = err_from_is_err_and c.from_residual-in_err-step.result c.from_residual-in_err-step.ensures.1 in
-    let e = rw (c.top_limits-limits.ensures, c.le16_at-tops.ensures.number) at c.in_err-step.ensures.0 in
+    let e = rw (c.top_limits-limits.ensures, c.le16_at-tops.ensures.number) at c.in_err-step.ensures.step in
     let fine = fine-at t (goal.at.returns-in_err-step t c).In_ok-check_record in
-    rw (p.1, p.2) (refused_on_all _ _ c.in_err-step.field-0.0 (families_refused a.sheet.now (256 - a.done.families) a.count a.done.place (omega arith) fine _ _ (step_refused _ _ c.in_err-step.field-0.0 _ e)) _ _)
+    let on = refused_on_all _ _ c.in_err-step.field-0.0 (families_refused a.sheet.now (256 - a.done.families) a.count a.done.place (omega arith) fine _ _ (step_refused _ _ c.in_err-step.field-0.0 _ e)) _ _ in
+    rw (p.1, p.2) (record { progress = on.0; row = on.1 })
 
 pub overflow_cast-span : goal.overflow_cast-span
 overflow_cast-span t c = let T = taken_at t (goal.at.overflow_cast-span t c).In_ok-step in omega (arith, T.span, T.fits)
@@ -105,7 +114,8 @@ returns t c =
     let T = taken_at t (goal.at.returns t c).In_ok-step in
     let k = (c.in_ok-step.step.place - a.done.place - 6) / 22 in
     let left : 256 - (a.done.families + k) ≡ 256 - a.done.families - k = omega arith in
-    let rest = rw (c.add_element.ensures, left) at c.read_elements.ensures in (
-      rest_progress _ _ _ _ _ T a.done _ _ k refl c.le16_at-tops.ensures.number refl rest.0,
-      rest_written_all _ _ _ _ _ T a.numbers.now c.read_siblings.new.numbers c.read_elements.new.numbers k _ _ refl refl refl (families-step t (goal.at.returns t c).In_ok-step).1 rest.1,
-    )
+    let rest = rw (c.add_element.ensures, left) at c.read_elements.ensures in
+    record {
+      progress = rest_progress _ _ _ _ _ T a.done _ _ k refl c.le16_at-tops.ensures.number refl rest.progress;
+      row = rest_written_all _ _ _ _ _ T a.numbers.now c.read_siblings.new.numbers c.read_elements.new.numbers k _ _ refl refl refl (families-step t (goal.at.returns t c).In_ok-step).1 rest.row;
+    }
