@@ -5,6 +5,7 @@ use mathlib.Core.List.{List, [], ◌∷◌}
 use Prim.Native.Nat.{ℕ, ◌-◌, ◌≤◌, ◌<◌}
 use native.Mathlib.Omega.{arith}
 use Rattle.counting.specs.Count.{count_below}
+use Rattle.families.specs.declared.Family.{Family}
 use Rattle.families.specs.Forest.{WF}
 use Rattle.sheets.specs.Reading.{Reading}
 use Rattle.sheets.specs.Refusals.{Test}
@@ -105,14 +106,14 @@ module _ (r : Reading) (e a b : ℕ) where
         let K = buffer_known file (b - a) packed count buffers.0 in
         (record { window = W.0; file_long = K.0; packed_long = K.1 }, buffers.1)
 
--- ---- WHAT A CALL KNOWS of an element that was opened
-pub record Opened (r : Reading) (e : ℕ) (o : Opening) : Type 0 where
+-- ---- WHAT A CALL KNOWS of an element that was opened, with its selection s of these families
+pub record Opened (r : Reading) (e : ℕ) (s : Selection) (families : List Family) : Type 0 where
   pub element : ElementFine r e
-  pub ok : SelectionOk o.selection o.layout.family
-  pub ruled : WF 0 65535 (families_of o.selection o.layout.family)
-  pub short : o.selection.period ≤ 65536
-  pub from : o.selection.from ≡ r.layout.displacement
-  pub is : belongs o.selection o.layout.family ≡ offsets_of r e
+  pub ok : SelectionOk s families
+  pub ruled : WF 0 65535 (families_of s families)
+  pub short : s.period ≤ 65536
+  pub from : s.from ≡ r.layout.displacement
+  pub is : belongs s families ≡ offsets_of r e
 
 from_displacement : (r : Reading) (e : ℕ) → (selection_of r.layout r.size e).from ≡ r.layout.displacement
 unfolding selection_of
@@ -126,7 +127,7 @@ belongs_offsets : (r : Reading) (e : ℕ) → belongs (selection_of r.layout r.s
 unfolding offsets_of
 belongs_offsets r e = belongs_tree r.layout e r.size
 
-pub chosen_known : (xs : List ℕ) (e : ℕ) {o : Opening} → let r = read_sheet xs in Chosen r e o → ElementFine r e → Opened r e o
+pub chosen_known : (xs : List ℕ) (e : ℕ) {o : Opening} → let r = read_sheet xs in Chosen r e o → ElementFine r e → Opened r e o.selection o.layout.family
 chosen_known xs e {o} C E =
     let r = read_sheet xs in
     let A = accepted_law xs E.fine in
@@ -139,11 +140,16 @@ chosen_known xs e {o} C E =
       is = rw (C.selection, C.layout) (belongs_offsets r e);
     }
 
+-- .. and of its subfile
+pub lent : {r : Reading} {e : ℕ} {o : Opening} {s : Selection} {families : List Family} → s ≡ o.selection → families ≡ o.layout.family
+    → Opened r e o.selection o.layout.family → Opened r e s families
+lent p q K = rw (p, q) K
+
 module _ (xs : List ℕ) (e : ℕ) {o : Opening} (C : Chosen (read_sheet xs) e o) where
   abbrev r : Reading
   r = read_sheet xs
 
-  pub opened : Passes (unless_element r e) → Opened r e o
+  pub opened : Passes (unless_element r e) → Opened r e o.selection o.layout.family
   opened P = chosen_known xs e C (element_through r e (sym (P (done [])))).0
 
   -- tests of the displacement, after the element was opened: as the code has it
@@ -158,12 +164,12 @@ module _ (xs : List ℕ) (e : ℕ) {o : Opening} (C : Chosen (read_sheet xs) e o
     tests_passed Q next = rw (opened P).from at (Q next) ∙ P _
 
   -- .. for a file offset
-  pub opened_offset : (x : ℕ) → Passes (unless_offset r e x) → Opened r e o × OffsetFine r e x
+  pub opened_offset : (x : ℕ) → Passes (unless_offset r e x) → Opened r e o.selection o.layout.family × OffsetFine r e x
   opened_offset x P = let X = (offset_through r e x (sym (P (done [])))).0 in (chosen_known xs e C X.element, X)
 
 -- ---- WHAT A CALL KNOWS of a window that was opened
 pub record Windowed (r : Reading) (e a b : ℕ) (o : Opening) : Type 0 where
-  pub opened : Opened r e o
+  pub opened : Opened r e o.selection o.layout.family
   pub forward : a ≤ b
   pub after : o.selection.from ≤ a
   pub near : b ≤ LIMIT

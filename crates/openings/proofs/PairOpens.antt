@@ -56,8 +56,8 @@ module _ (r1 r2 : Reading) (i j : ℕ) where
 
 -- ---- WHAT A CALL KNOWS of a pair that was opened
 pub record Paired (r1 r2 : Reading) (i j a b : ℕ) (o : Pair) : Type 0 where
-  pub one : Opened r1 i o.one
-  pub two : Opened r2 j o.two
+  pub one : Opened r1 i o.one.selection o.one.layout.family
+  pub two : Opened r2 j o.two.selection o.two.layout.family
   pub forward : a ≤ b
   pub after1 : o.one.selection.from ≤ a
   pub after2 : o.two.selection.from ≤ a
