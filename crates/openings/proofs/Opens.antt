@@ -141,9 +141,9 @@ chosen_known xs e {o} C E =
     }
 
 -- .. and of its subfile
-pub lent : {r : Reading} {e : ℕ} {o : Opening} {s : Selection} {families : List Family} → s ≡ o.selection → families ≡ o.layout.family
+pub lent : {r : Reading} {e : ℕ} (o : Opening) {s : Selection} {families : List Family} → s ≡ o.selection → families ≡ o.layout.family
     → Opened r e o.selection o.layout.family → Opened r e s families
-lent p q K = rw (p, q) K
+lent o p q K = rw (p, q) K
 
 module _ (xs : List ℕ) (e : ℕ) {o : Opening} (C : Chosen (read_sheet xs) e o) where
   abbrev r : Reading
