@@ -1,14 +1,10 @@
--- Where a frame's blobs stand and end, when an end past the frame's own is cut down to the next number. Assumes nothing.
-use mathlib.Core.Path.{◌≡◌, refl, sym, ap, ◌∙◌}
-use mathlib.Core.Bool.{Bool, true, false}
+-- Where a frame's blobs stand and end, and the room that there is for an answer. Assumes nothing.
+use mathlib.Core.Path.{◌≡◌, refl}
 use mathlib.Core.List.{List}
-use Prim.Native.Nat.{ℕ, suc, ◌+◌, ◌-◌, ◌*◌, ◌≤◌, min}
-use native.Mathlib.Omega.{arith, min_cases}
-use borrow.Author.Tests.{eq-eqb, ne_eqb, eqb-true, eqb-false}
-use lib.Dec.{eqb}
-use lib.ListN.{length, take, drop, length-take, length-drop}
+use Prim.Native.Nat.{ℕ, ◌+◌, ◌*◌, ◌≤◌}
+use native.Mathlib.Omega.{arith}
+use lib.ListN.{length, take, length-take, length-drop}
 use lib.Seq.{length-take-le}
-use Rattle.sheets.specs.Bytes.{le32}
 use Rattle.answers.specs.Frames.{blob, blob_end, end1, end2, end3, end4, Whole, into_of}
 use Rattle.answers.specs.Lines.{Room}
 
@@ -16,48 +12,6 @@ module _ (xs : List ℕ) where
   pub blob_grows : (at : ℕ) → at + 4 ≤ blob_end xs at
   unfolding blob_end
   blob_grows at = omega arith
-
-  abbrev cut : ℕ → ℕ
-  cut e = min e (suc (length xs))
-
-  -- what follows an end past the frame's own is past it too
-  cut_on : (e : ℕ) → cut (blob_end xs (cut e)) ≡ cut (blob_end xs e)
-  cut_on e = min_cases e (suc (length xs)) _ (λ _ same. ap (λ (k : ℕ). cut (blob_end xs k)) same) (λ past _. omega (arith, blob_grows e, blob_grows (cut e)))
-
-  -- one blob more
-  pub cut_next : (e r s : ℕ) → r ≡ cut e → s ≡ cut (blob_end xs r) → s ≡ cut (blob_end xs e)
-  cut_next e r s p q = q ∙ ap (λ (k : ℕ). cut (blob_end xs k)) p ∙ cut_on e
-
-  -- the frame's own end is not cut
-  cut_test : (e r : ℕ) → r ≡ cut e → eqb r (length xs) ≡ eqb e (length xs)
-  cut_test e r p = go (eqb e (length xs)) refl
-    where
-      go : (b : Bool) → eqb e (length xs) ≡ b → eqb r (length xs) ≡ eqb e (length xs)
-      go true h = let z : e ≡ length xs = eqb-true e (length xs) h in eq-eqb r (length xs) (omega arith) ∙ sym h
-      go false h = ne_eqb r (length xs) (λ w. eqb-false e (length xs) h (omega arith)) ∙ sym h
-
-  pub whole_test : (r3 r4 : ℕ) → r3 ≡ cut (end3 xs) → r4 ≡ cut (blob_end xs r3) → eqb r4 (length xs) ≡ eqb (end4 xs) (length xs)
-  whole_test r3 r4 p q = cut_test (end4 xs) r4 (cut_next (end3 xs) r3 r4 p q)
-
-  -- a blob that stands in the frame is what is lent
-  module _ (at end : ℕ) (fits : blob_end xs at ≤ length xs) (ends : end ≡ cut (blob_end xs at)) where
-    pub blob_place : (at + 4 ≤ end) × (end ≤ length xs)
-    blob_place = (omega (arith, blob_grows at), omega arith)
-
-    pub blob_lent : take (end - (at + 4)) (drop (at + 4) xs) ≡ blob xs at
-    unfolding blob blob_end
-    blob_lent = let n : end - (at + 4) ≡ le32 xs at = omega arith in rw n refl
-
-  -- where a blob in the frame begins is not cut
-  module _ (at r : ℕ) (fits : blob_end xs at ≤ length xs) (begins : r ≡ cut at) where
-    begin_is : r ≡ at
-    begin_is = omega (arith, blob_grows at)
-
-    pub begin_fits : blob_end xs r ≤ length xs
-    begin_fits = rw begin_is fits
-
-    pub begin_blob : blob xs r ≡ blob xs at
-    begin_blob = ap (blob xs) begin_is
 
   -- in a whole frame the numbers and the blobs stand in the frame
   module _ (whole : Whole xs) where

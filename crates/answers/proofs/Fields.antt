@@ -1,13 +1,13 @@
 -- Pieces that are put one after the other: a number, an answer's seven, and the whole line. Assumes nothing.
-use mathlib.Core.Path.{◌≡◌}
-use mathlib.Core.List.{List}
-use Prim.Native.Nat.{ℕ, ◌+◌, ◌<◌}
+use mathlib.Core.Path.{◌≡◌, refl, sym, ap, ◌∙◌}
+use mathlib.Core.List.{List, [], ◌∷◌, ◌++◌, append-nil, append_assoc}
 use native.Mathlib.Omega.{arith}
-use lib.ListN.{length, take, set, length-set}
+use Prim.Native.Nat.{ℕ, ◌+◌, ◌*◌, ◌≤◌, ◌<◌}
+use native.Mathlib.Numerals.{add-one}
+use lib.ListN.{length, take, set, get_or}
+use lib.Seq.{take-suc}
 use Rattle.words.specs.Texts.{word, decimal, Put}
 use Rattle.words.proofs.Puts.{put_byte, ◌then◌}
-use Rattle.io.specs.Counts.{IsPrefixLen}
-use Rattle.io.proofs.Counting.{prefix_len_of_le}
 use Rattle.said.specs.declared.Answer.{Answer}
 use Rattle.answers.specs.Lines.{field, fields, buffer, line}
 
@@ -16,12 +16,39 @@ pub put_field : (n : ℕ) {at end : ℕ} {before text : List ℕ} → Put (decim
 unfolding field word
 put_field n {text = text} x room = x then put_byte 32 _ text room
 
+-- numbers one after the other
+unfoldable pub several : List ℕ → List ℕ
+several [] = []
+several (n ∷ ns) = field n ++ several ns
+
+several_more : (ns : List ℕ) (n : ℕ) → several (ns ++ (n ∷ [])) ≡ several ns ++ field n
+unfolding several
+several_more [] n = append-nil (field n)
+several_more (m ∷ ns) n = ap (λ (rest : List ℕ). field m ++ rest) (several_more ns n) ∙ sym (append_assoc (field m) (several ns) (field n))
+
+-- the first i of them are put
+abbrev pub Told : (numbers : List ℕ) (i end : ℕ) (before here : List ℕ) → Type 0
+Told numbers i end before here = Put (several (take i numbers)) (21 * i) 0 end before here
+
+pub told_none : (text : List ℕ) → Put (several []) 0 0 0 text text
+unfolding several
+told_none text = record { text = refl; short = omega arith; kept = refl }
+
+pub told_more : (numbers : List ℕ) {i end r : ℕ} {before here after : List ℕ} → i < length numbers → Told numbers i end before here
+    → Put (field (get_or numbers i 0)) 21 end r here after → Told numbers (i + 1) r before after
+told_more numbers {i} h p q =
+    let both = p then q in
+    record {
+      text = rw (add-one, take-suc numbers i 0 h, several_more) both.text;
+      short = omega (arith, both.short);
+      kept = both.kept;
+    }
+
 -- the seven numbers of an answer
-pub put_fields : (a : Answer) {e1 e2 e3 e4 e5 e6 e7 : ℕ} {t0 t1 t2 t3 t4 t5 t6 t7 : List ℕ} → Put (field a.number) 21 0 e1 t0 t1
-    → Put (field a.sheet) 21 e1 e2 t1 t2 → Put (field a.place) 21 e2 e3 t2 t3 → Put (field a.flag) 21 e3 e4 t3 t4
-    → Put (field a.value) 21 e4 e5 t4 t5 → Put (field a.value2) 21 e5 e6 t5 t6 → Put (field a.value3) 21 e6 e7 t6 t7 → Put (fields a) 147 0 e7 t0 t7
-unfolding fields
-put_fields a p1 p2 p3 p4 p5 p6 p7 = p1 then (p2 then (p3 then (p4 then (p5 then (p6 then p7)))))
+pub told_all : (a : Answer) {i end : ℕ} {before here : List ℕ} → i ≤ 7 → 7 ≤ i
+    → Told (a.number ∷ a.sheet ∷ a.place ∷ a.flag ∷ a.value ∷ a.value2 ∷ a.value3 ∷ []) i end before here → Put (fields a) 147 0 end before here
+unfolding fields several
+told_all a {i} h k p = let e : i ≡ 7 = omega arith in rw append-nil at (rw e at p)
 
 -- with the buffer and the end of a line they are the line
 module _ (a : Answer) (into : List ℕ) {most m e : ℕ} {t0 t1 t2 : List ℕ} (p : Put (fields a) 147 0 m t0 t1) (q : Put (buffer into) most m e t1 t2)
@@ -30,8 +57,5 @@ module _ (a : Answer) (into : List ℕ) {most m e : ℕ} {t0 t1 t2 : List ℕ} (
   unfolding line word
   put_end = p then (q then put_byte 10 e t2 room)
 
-  pub line_is : (take (e + 1) (set t2 e 10) ≡ line a into) × IsPrefixLen (e + 1) (set t2 e 10)
-  line_is = (put_end.text, prefix_len_of_le (e + 1) (set t2 e 10) (rw length-set (omega arith)))
-
-  pub line_kept : length (set t2 e 10) ≡ length t0
-  line_kept = put_end.kept
+  pub line_is : take (e + 1) (set t2 e 10) ≡ line a into
+  line_is = put_end.text

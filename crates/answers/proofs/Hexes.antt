@@ -1,66 +1,61 @@
 -- Bytes put in hex, one after the other; and a buffer. Assumes nothing.
-use mathlib.Core.Path.{◌≡◌, refl, sym, ap}
-use mathlib.Core.List.{List, [], ◌∷◌, ◌++◌, append-nil}
-use Prim.Native.Nat.{ℕ, ◌+◌, ◌*◌, ◌/◌, ◌%◌, ◌≤◌, ◌<◌}
-use native.Mathlib.Numerals.{add-one}
+use mathlib.Core.Path.{◌≡◌, refl, sym, ◌∙◌}
+use mathlib.Core.Bool.{Bool, true}
+use mathlib.Core.List.{List, [], ◌∷◌}
+use Prim.Native.Nat.{ℕ, zero, suc, ◌+◌, ◌*◌, ◌/◌, ◌%◌, ◌≤◌, ◌<◌}
 use native.Mathlib.Omega.{arith}
-use lib.ListN.{length, take, set, get_or, length-set}
-use lib.Seq.{take-suc, take-length}
+use Rattle.std.specs.Prelude.{◌&&◌, Result, Ok, Err, IsOk, OnOk}
+use Rattle.std.proofs.Common.{inl, inr}
+use Rattle.std.proofs.lemmas.Bool.{and_parts, cases_lt, eqb-true}
+use lib.Dec.{eqb}
+use lib.ListN.{length, set, get_or}
+use borrow.Rule.Slice.PartMut.{put_mid}
+use Rattle.std.proofs.lemmas.Slice.{put_mid-paste}
+use Rattle.hex.specs.Hex.{lower_digits, encode_with, encode_lower}
 use Rattle.io.specs.Digits.{hex_digit_ascii}
 use Rattle.answers.specs.Lines.{hex, buffer}
 use Rattle.words.specs.Texts.{word, Put}
-use Rattle.words.proofs.Puts.{put_byte, ◌then◌}
+use Rattle.words.proofs.Puts.{put_byte, put_word}
 
-hex_append : (xs ys : List ℕ) → hex (xs ++ ys) ≡ hex xs ++ hex ys
+-- the digits are those of the kit's `hex`: a test of the first n, which computes
+abbrev alike : ℕ → Bool
+alike zero = true
+alike (suc n) = eqb (get_or lower_digits n 0) (hex_digit_ascii n) && alike n
+
+alike_at : (n d : ℕ) → alike n ≡ true → d < n → get_or lower_digits d 0 ≡ hex_digit_ascii d
+alike_at zero d h below = absurd (omega arith)
+alike_at (suc n) d h below =
+    let parts = and_parts (eqb (get_or lower_digits n 0) (hex_digit_ascii n)) (alike n) h in
+    elim (cases_lt d n) [
+      | inl under ↦ alike_at n d parts.1 under
+      | inr top ↦
+          let e : d ≡ n = omega arith in
+          rw e (eqb-true _ _ parts.0)
+    ]
+
+-- and so is the text of bytes
+pub hex_is : (bytes : List ℕ) → ((i : ℕ) → get_or bytes i 0 < 256) → encode_lower bytes ≡ hex bytes
+unfolding hex encode_with
+hex_is [] B = refl
+hex_is (b ∷ bs) B =
+    let small : b < 256 = B 0 in
+    rw (alike_at 16 (b / 16) refl (omega arith), alike_at 16 (b % 16) refl (omega arith), hex_is bs (λ i. B (suc i))) refl
+
+hex_length : (bytes : List ℕ) → length (hex bytes) ≡ 2 * length bytes
 unfolding hex
-hex_append [] ys = refl
-hex_append (x ∷ xs) ys = ap (λ (rest : List ℕ). hex_digit_ascii (x / 16) ∷ hex_digit_ascii (x % 16) ∷ rest) (hex_append xs ys)
+hex_length [] = refl
+hex_length (b ∷ bs) = omega (arith, hex_length bs)
 
--- one byte more
-module _ (bytes : List ℕ) (i : ℕ) (h : i < length bytes) where
-  abbrev byte : ℕ
-  byte = get_or bytes i 0
+pub put_digits : (bytes text : List ℕ) (at : ℕ) {k : ℕ} {digits : List ℕ} → at + 2 * length bytes ≤ length text → k ≡ 2 * length bytes → digits ≡ hex bytes
+    → Put (hex bytes) (2 * length bytes) at (at + 2 * length bytes) text (put_mid at k text digits)
+put_digits bytes text at {k} {digits} room long is =
+    let e : length (hex bytes) ≡ 2 * length bytes = hex_length bytes in
+    rw e at (put_word (hex bytes) text at (rw e room) (put_mid-paste at k text digits (hex bytes) (length (hex bytes)) is (e ∙ sym long) refl))
 
-  hex_more : hex (take (i + 1) bytes) ≡ hex (take i bytes) ++ (hex_digit_ascii (byte / 16) ∷ hex_digit_ascii (byte % 16) ∷ [])
-  unfolding hex
-  hex_more = rw (add-one, take-suc bytes i 0) (hex_append (take i bytes) (byte ∷ []))
-
--- i bytes are put, and end at `end`
-pub record Spelled (bytes : List ℕ) (at i end : ℕ) (before here : List ℕ) : Type 0 where
-  pub some : i ≤ length bytes
-  pub ends : end ≡ at + 2 * i
-  pub put : Put (hex (take i bytes)) (2 * i) at end before here
-
-module _ {bytes : List ℕ} {at : ℕ} {text : List ℕ} where
-  pub spelled_none : Spelled bytes at 0 at text text
-  unfolding hex
-  spelled_none = record { some = omega arith; ends = omega arith; put = record { text = sym (append-nil (take at text)); short = omega arith; kept = refl } }
-
-  module _ {i end : ℕ} {here : List ℕ} (p : Spelled bytes at i end text here) (room : at + 2 * length bytes ≤ length text) where
-    pub spelled_room : i < length bytes → end + 1 < length here
-    spelled_room h = omega (arith, p.ends, p.put.kept)
-
-    module _ {high low : ℕ} (more : i < length bytes) (is-high : high ≡ hex_digit_ascii (get_or bytes i 0 / 16)) (is-low : low ≡ hex_digit_ascii (get_or bytes i 0 % 16)) where
-      two_digits : Put (hex (take i bytes) ++ (high ∷ low ∷ [])) (2 * i + 2) at (end + 1 + 1) text (set (set here end high) (end + 1) low)
-      two_digits =
-          p.put
-          then (put_byte high end here (omega (arith, spelled_room more))
-          then put_byte low (end + 1) (set here end high) (rw length-set (spelled_room more)))
-
-      pub spelled_more : Spelled bytes at (i + 1) (end + 2) text (set (set here end high) (end + 1) low)
-      spelled_more =
-          record {
-            some = omega arith;
-            ends = omega (arith, p.ends);
-            put = record {
-              text = let two : end + 2 ≡ end + 1 + 1 = omega arith in rw (two, hex_more bytes i more, ← is-high, ← is-low) two_digits.text;
-              short = omega (arith, p.ends);
-              kept = two_digits.kept;
-            };
-          }
-
-    pub spelled_all : length bytes ≤ i → Put (hex bytes) (2 * length bytes) at end text here
-    spelled_all h = let e : i ≡ length bytes = omega (arith, p.some) in rw take-length at (rw e at p.put)
+-- what is so where there is a value, of a value
+pub on_ok : {T E P : Type 0} (r : Result T E) → IsOk r → OnOk r P → P
+on_ok (Ok x) h p = p
+on_ok (Err e) h p = absurd cc
 
 -- an empty buffer is a dash, and any other its bytes
 module _ (at : ℕ) (text : List ℕ) where

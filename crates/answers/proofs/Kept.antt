@@ -4,6 +4,7 @@ use mathlib.Core.Bool.{Bool, true, false, cond}
 use mathlib.Core.List.{List}
 use Prim.Native.Nat.{ℕ}
 use lib.Dec.{eqb}
+use Rattle.std.specs.Prelude.{Option, Some, None}
 use Rattle.sheets.specs.Bytes.{Bytes}
 use Rattle.openings.specs.Said.{Said, done, refused, Outcome}
 use Rattle.openings.proofs.Orders.{left_held}
@@ -13,27 +14,25 @@ use Rattle.astrephon.specs.Moves.{move_of, pair_move_of}
 use Rattle.astrephon.specs.Texts.{text_outcome}
 use Rattle.said.specs.declared.Answer.{Answer}
 use Rattle.said.specs.Answers.{answer_of}
-use Rattle.answers.specs.declared.calls.Reply.{Reply}
-use Rattle.answers.specs.declared.calls.Reply.TheVariants.{Told, Unknown}
+use Rattle.answers.specs.Calls.{GATHER, SCATTER, MOVE, PAIR_MOVE, SHARED_RUNS, LISTING}
 use Rattle.answers.specs.Numbers.{slots_of, with_slots}
 use Rattle.answers.specs.Replies.{gather_outcome, scatter_outcome, move_outcome, pair_move_outcome, shared_outcome, listing_outcome, Replied, telling, reply_to}
-use Rattle.answers.specs.Replies.{GATHER, SCATTER, MOVE, PAIR_MOVE, SHARED_RUNS, LISTING}
 use Rattle.answers.proofs.Unwritten.{unwritten}
 
-number_in : Reply → ℕ
-number_in (Told a) = a.number
-number_in Unknown = 0
+number_in : Option Answer → ℕ
+number_in (Some a) = a.number
+number_in None = 0
 
 module _ (xs into : List ℕ) where
   -- a reply that tells a number other than 0 leaves the buffer
   abbrev pub Keeps : Replied → Type 0
-  Keeps r = (a : Answer) → r.reply ≡ Told a → (a.number ≡ 0 → ⊥) → r.later ≡ into
+  Keeps r = (a : Answer) → r.reply ≡ Some a → (a.number ≡ 0 → ⊥) → r.later ≡ into
 
   -- ---- of an outcome it is enough that the call does
   abbrev KeepsRefused : (says : Said) → (later : List ℕ) → Type 0
   KeepsRefused says later = (n s p f : ℕ) → says ≡ refused n s p f → later ≡ into
 
-  told_keeps : (says : Said) (later : List ℕ) → KeepsRefused says later → (a : Answer) → Told (answer_of says) ≡ Told a → (a.number ≡ 0 → ⊥) → later ≡ into
+  told_keeps : (says : Said) (later : List ℕ) → KeepsRefused says later → (a : Answer) → Some (answer_of says) ≡ Some a → (a.number ≡ 0 → ⊥) → later ≡ into
   unfolding number_in
   told_keeps (done values) later keep a e d = absurd (d (sym (ap number_in e)))
   told_keeps (refused n s p f) later keep a e d = keep n s p f refl

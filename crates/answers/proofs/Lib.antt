@@ -1,5 +1,4 @@
 pub mod Ends
-pub mod Texts
 pub mod Fields
 pub mod Hexes
 pub mod Slots

@@ -1,50 +1,24 @@
 -- Slots of eight bytes, taken out of a buffer and put back. Assumes nothing.
 use mathlib.Core.Path.{◌≡◌, refl, sym, ap, ◌∙◌}
 use mathlib.Core.List.{List, [], ◌∷◌, ◌++◌, append-nil, append_assoc}
-use Prim.Native.Nat.{ℕ, zero, suc, ◌+◌, ◌*◌, ◌-◌, ◌/◌, ◌%◌, ◌≤◌, ◌<◌}
+use Prim.Native.Nat.{ℕ, zero, suc, ◌+◌, ◌*◌, ◌/◌, ◌≤◌, ◌<◌}
 use native.Mathlib.Numerals.{add-one}
 use native.Mathlib.Omega.{arith}
-use lib.ListN.{length, take, drop, set, get_or, length-append, length-take, length-drop}
-use lib.Seq.{paste, length-take-le, take_all, take-suc, drop-length, drop-cons, drop-drop, get_or-drop, append_snoc, set_at, take_at, drop-append-add}
+use Rattle.std.specs.Int.{to_le_bytes, w64}
+use native.Mathlib.Nat.{div-div-eq-div-mul}
+use lib.ListN.{length, take, drop, set, get_or, length-append}
+use lib.Seq.{paste, length-take-le, take_all, take-suc, drop-length, drop-cons, drop-drop, append_snoc, set_at, take_at, drop-append-add}
 use Rattle.answers.specs.Numbers.{le64, lowest, slots_in, slot_bytes, with_slots}
-use Rattle.answers.proofs.Texts.{Pasted, pasted_none, pasted_length, pasted_more, pasted_all}
 
 pub lowest_length : (k v : ℕ) → length (lowest k v) ≡ k
 unfolding lowest
 lowest_length zero v = refl
 lowest_length (suc k) v = ap suc (lowest_length k (v / 256))
 
--- ---- k bytes of a number are put, and `rest` has the others
-pub record Lowered (v : ℕ) (bytes : List ℕ) (at k rest : ℕ) (here : List ℕ) : Type 0 where
-  pub pasted : Pasted bytes at (lowest 8 v) k here
-  pub left : drop k (lowest 8 v) ≡ lowest (8 - k) rest
-
-module _ {v : ℕ} {bytes : List ℕ} {at : ℕ} where
-  pub lowered_none : Lowered v bytes at 0 v bytes
-  lowered_none = record { pasted = pasted_none; left = refl }
-
-  module _ {k rest : ℕ} {here : List ℕ} (p : Lowered v bytes at k rest here) (room : at + 8 ≤ length bytes) where
-    left_more : k < 8 → drop k (lowest 8 v) ≡ rest % 256 ∷ lowest (8 - (k + 1)) (rest / 256)
-    unfolding lowest
-    left_more h = let e : 8 - k ≡ suc (8 - (k + 1)) = omega arith in rw e at p.left
-
-    next_byte : k < 8 → get_or (lowest 8 v) k 0 ≡ rest % 256
-    next_byte h =
-        let e : k + 0 ≡ k = omega arith in
-        rw e at (sym (get_or-drop k (lowest 8 v) 0 0)) ∙ ap (λ (l : List ℕ). get_or l 0 0) (left_more h)
-
-    pub lowered_length : length here ≡ length bytes
-    lowered_length = pasted_length p.pasted (rw lowest_length room)
-
-    pub lowered_more : k < 8 → Lowered v bytes at (k + 1) (rest / 256) (set here (at + k) (rest % 256))
-    lowered_more h =
-        record {
-          pasted = rw (next_byte h) at (pasted_more p.pasted (rw lowest_length room) (rw lowest_length h));
-          left = sym (drop-drop 1 k (lowest 8 v)) ∙ ap (drop 1) (left_more h);
-        }
-
-    pub lowered_all : 8 ≤ k → here ≡ paste bytes at (lowest 8 v) 8
-    lowered_all h = rw (lowest_length 8 v) at (pasted_all p.pasted (rw lowest_length room) (rw lowest_length h))
+-- the eight bytes as std has them
+pub lowest_bytes : (v : ℕ) → lowest 8 v ≡ to_le_bytes w64 v
+unfolding lowest
+lowest_bytes v = simp div-div-eq-div-mul refl
 
 -- ---- i slots of a buffer are taken
 pub slots_length : (n : ℕ) (xs : List ℕ) → length (slots_in n xs) ≡ n
@@ -62,9 +36,6 @@ module _ {buffer list : List ℕ} where
   taken_none = record { some = omega arith; is = refl }
 
   module _ {i : ℕ} {here : List ℕ} (p : Taken buffer list i here) where
-    pub taken_length : length here ≡ length list
-    taken_length = rw p.is (simp (length-append, slots_length, length-drop) (omega (arith, p.some)))
-
     pub taken_more : i < length list → Taken buffer list (i + 1) (set here i (le64 buffer (8 * i)))
     unfolding slots_in
     taken_more h =
@@ -79,10 +50,6 @@ module _ {buffer list : List ℕ} where
     pub taken_all : length list ≤ i → here ≡ slots_in (length list) buffer
     taken_all h = let e : i ≡ length list = omega (arith, p.some) in rw (drop-length, append-nil) at (rw e at p.is)
 
--- a list for the longest buffer is lent as far as the buffer has whole slots
-pub list_lent : (buffer list : List ℕ) → length buffer ≤ 65536 → 8192 ≡ length list → length (take (length buffer / 8) list) ≡ length buffer / 8
-list_lent buffer list few long = length-take-le (length buffer / 8) list (omega arith)
-
 -- ---- i slots are put back
 slot_bytes_length : (vs : List ℕ) → length (slot_bytes vs) ≡ 8 * length vs
 unfolding slot_bytes
@@ -93,10 +60,6 @@ pub slot_bytes_append : (vs ws : List ℕ) → slot_bytes (vs ++ ws) ≡ slot_by
 unfolding slot_bytes
 slot_bytes_append [] ws = refl
 slot_bytes_append (v ∷ vs) ws = ap (λ (l : List ℕ). lowest 8 v ++ l) (slot_bytes_append vs ws) ∙ sym (append_assoc (lowest 8 v) (slot_bytes vs) (slot_bytes ws))
-
-with_length : (vs xs : List ℕ) → 8 * length vs ≤ length xs → length (with_slots vs xs) ≡ length xs
-unfolding with_slots
-with_length vs xs h = simp (length-append, slot_bytes_length, length-drop) (omega arith)
 
 -- one slot more
 with_more : (vs xs : List ℕ) (v : ℕ) → paste (with_slots vs xs) (8 * length vs) (lowest 8 v) 8 ≡ with_slots (vs ++ (v ∷ [])) xs
@@ -119,10 +82,7 @@ module _ {list before : List ℕ} where
   unfolding with_slots slot_bytes
   returned_none = record { some = omega arith; is = refl }
 
-  module _ {i : ℕ} {here : List ℕ} (p : Returned list before i here) (room : 8 * length list ≤ length before) where
-    pub returned_length : length here ≡ length before
-    returned_length = rw p.is (with_length (take i list) before (rw length-take (omega arith)))
-
+  module _ {i : ℕ} {here : List ℕ} (p : Returned list before i here) where
     pub returned_more : {after : List ℕ} → i < length list → after ≡ paste here (8 * i) (lowest 8 (get_or list i 0)) 8 → Returned list before (i + 1) after
     returned_more h e =
         record {

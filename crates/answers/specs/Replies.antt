@@ -1,5 +1,5 @@
 -- What the program prints for a frame. Assumes nothing: these are definitions.
-use Rattle.std.specs.Prelude.{◌≡◌, cond, List, [], ℕ, eqb, length}
+use Rattle.std.specs.Prelude.{◌≡◌, cond, List, [], ℕ, eqb, length, Option, Some, None}
 use Rattle.openings.specs.Said.{Said, Outcome}
 use Rattle.astrephon.specs.Check.{check_call}
 use Rattle.astrephon.specs.Maps.{exact_call, next_call, inverse_call, span_call}
@@ -9,48 +9,10 @@ use Rattle.astrephon.specs.Moves.{move_call, pair_move_call}
 use Rattle.astrephon.specs.Texts.{listing_call}
 use Rattle.said.specs.declared.Answer.{Answer}
 use Rattle.said.specs.Answers.{answer_of}
-use Rattle.answers.specs.declared.calls.Reply.{Reply}
-use Rattle.answers.specs.declared.calls.Reply.TheVariants.{Told, Unknown}
+use Rattle.answers.specs.Calls.{CHECK, EXACT, NEXT, INVERSE, SPAN, GATHER, SCATTER, MOVE, PAIR_MOVE, SHARED_RUNS, LISTING, PACKED_LENGTH}
 use Rattle.answers.specs.Frames.{call_of, i_of, j_of, a_of, b_of, end4, sheet1, sheet2, from_of, into_of}
 use Rattle.answers.specs.Numbers.{slots_of, with_slots}
 use Rattle.answers.specs.Lines.{line}
-
--- the calls' numbers
-abbrev pub CHECK : ℕ
-CHECK = 1
-
-abbrev pub EXACT : ℕ
-EXACT = 2
-
-abbrev pub NEXT : ℕ
-NEXT = 3
-
-abbrev pub INVERSE : ℕ
-INVERSE = 4
-
-abbrev pub SPAN : ℕ
-SPAN = 5
-
-abbrev pub GATHER : ℕ
-GATHER = 6
-
-abbrev pub SCATTER : ℕ
-SCATTER = 7
-
-abbrev pub MOVE : ℕ
-MOVE = 8
-
-abbrev pub PAIR_MOVE : ℕ
-PAIR_MOVE = 9
-
-abbrev pub SHARED_RUNS : ℕ
-SHARED_RUNS = 10
-
-abbrev pub LISTING : ℕ
-LISTING = 11
-
-abbrev pub PACKED_LENGTH : ℕ
-PACKED_LENGTH = 17
 
 -- ---- what the calls that write nothing say of a frame
 abbrev pub check_said : List ℕ → Said
@@ -102,26 +64,26 @@ pub record Tells (o : Outcome) (answer : Answer) (later : List ℕ) : Type 0 whe
   pub left : later ≡ o.later
 
 -- ---- THE REPLY to a frame, by the number of its call: first of those that write nothing
-unfoldable pub asked_of : (call : ℕ) → (frame : List ℕ) → Reply
+unfoldable pub asked_of : (call : ℕ) → (frame : List ℕ) → Option Answer
 asked_of call xs =
-    cond (eqb call CHECK) (Told (answer_of (check_said xs)))
-    (cond (eqb call EXACT) (Told (answer_of (exact_said xs)))
-    (cond (eqb call NEXT) (Told (answer_of (next_said xs)))
-    (cond (eqb call INVERSE) (Told (answer_of (inverse_said xs)))
-    (cond (eqb call SPAN) (Told (answer_of (span_said xs)))
-    (cond (eqb call PACKED_LENGTH) (Told (answer_of (packed_said xs)))
-    Unknown)))))
+    cond (eqb call CHECK) (Some (answer_of (check_said xs)))
+    (cond (eqb call EXACT) (Some (answer_of (exact_said xs)))
+    (cond (eqb call NEXT) (Some (answer_of (next_said xs)))
+    (cond (eqb call INVERSE) (Some (answer_of (inverse_said xs)))
+    (cond (eqb call SPAN) (Some (answer_of (span_said xs)))
+    (cond (eqb call PACKED_LENGTH) (Some (answer_of (packed_said xs)))
+    None)))))
 
 -- a reply, and what the destination buffer holds after the call
 pub record Replied : Type 0 where
-  pub reply : Reply
+  pub reply : Option Answer
   pub later : List ℕ
 
-abbrev pub leaving : Reply → (later : List ℕ) → Replied
+abbrev pub leaving : Option Answer → (later : List ℕ) → Replied
 leaving r later = record { reply = r; later = later }
 
 abbrev pub telling : Outcome → Replied
-telling o = leaving (Told (answer_of o.says)) o.later
+telling o = leaving (Some (answer_of o.says)) o.later
 
 -- where the destination buffer holds `into`
 unfoldable pub reply_to : (call : ℕ) → (frame into : List ℕ) → Replied
@@ -135,9 +97,9 @@ reply_to call xs into =
     (leaving (asked_of call xs) into))))))
 
 -- the line of what is replied and left, and nothing where there is no such call
-unfoldable pub line_of : Reply → (into : List ℕ) → List ℕ
-line_of (Told a) into = line a into
-line_of Unknown into = []
+unfoldable pub line_of : Option Answer → (into : List ℕ) → List ℕ
+line_of (Some a) into = line a into
+line_of None into = []
 
 abbrev pub line_left : Replied → List ℕ
 line_left r = line_of r.reply r.later

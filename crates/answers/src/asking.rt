@@ -1,80 +1,43 @@
 // The calls that write nothing: what they say of a frame.
 ghost use Rattle.std.specs.Prelude.{◌≡◌};
 ghost use Rattle.said.specs.Answers.{answer_of};
-ghost use Rattle.answers.specs.Frames.{call_of, Whole};
-ghost use Rattle.answers.specs.Replies.{check_said, exact_said, next_said, inverse_said, span_said, packed_said, asked_of};
+ghost use Rattle.answers.specs.Replies.{check_said, exact_said, next_said, inverse_said, span_said, packed_said};
 
-use crate::calls::Reply;
-use crate::{calls, frames};
-use astrephon::{FileOffset, SubfileOffset};
+use crate::frames::Frame;
 use said::Answer;
 
-fn check(frame: &[u8]) -> Answer
-    requires { Whole frame.now }
-    ensures { result ≡ answer_of (check_said frame.now) }
+pub fn check(frame: &Frame) -> Answer
+    ensures { result ≡ answer_of (check_said frame.now.bytes.now) }
 {
-    said::of_checked(astrephon::check(frames::sheet1(frame)))
+    said::of_outcome(astrephon::check(frame.sheet1))
 }
 
-fn exact(frame: &[u8]) -> Answer
-    requires { Whole frame.now }
-    ensures { result ≡ answer_of (exact_said frame.now) }
+pub fn exact(frame: &Frame) -> Answer
+    ensures { result ≡ answer_of (exact_said frame.now.bytes.now) }
 {
-    let i = frames::number_at(frame, frames::I);
-    let x = FileOffset(frames::number_at(frame, frames::A));
-    said::of_mapped(astrephon::exact(frames::sheet1(frame), i, x))
+    said::of_outcome(astrephon::exact(frame.sheet1, frame.i(), frame.a()))
 }
 
-fn next(frame: &[u8]) -> Answer
-    requires { Whole frame.now }
-    ensures { result ≡ answer_of (next_said frame.now) }
+pub fn next(frame: &Frame) -> Answer
+    ensures { result ≡ answer_of (next_said frame.now.bytes.now) }
 {
-    let i = frames::number_at(frame, frames::I);
-    let x = FileOffset(frames::number_at(frame, frames::A));
-    said::of_mapped(astrephon::next(frames::sheet1(frame), i, x))
+    said::of_outcome(astrephon::next(frame.sheet1, frame.i(), frame.a()))
 }
 
-fn inverse(frame: &[u8]) -> Answer
-    requires { Whole frame.now }
-    ensures { result ≡ answer_of (inverse_said frame.now) }
+pub fn inverse(frame: &Frame) -> Answer
+    ensures { result ≡ answer_of (inverse_said frame.now.bytes.now) }
 {
-    let i = frames::number_at(frame, frames::I);
-    let y = SubfileOffset(frames::number_at(frame, frames::A));
-    said::of_located(astrephon::inverse(frames::sheet1(frame), i, y))
+    said::of_outcome(astrephon::inverse(frame.sheet1, frame.i(), frame.a_in_subfile()))
 }
 
-fn span(frame: &[u8]) -> Answer
-    requires { Whole frame.now }
-    ensures { result ≡ answer_of (span_said frame.now) }
+pub fn span(frame: &Frame) -> Answer
+    ensures { result ≡ answer_of (span_said frame.now.bytes.now) }
 {
-    let i = frames::number_at(frame, frames::I);
-    let a = FileOffset(frames::number_at(frame, frames::A));
-    let z = FileOffset(frames::number_at(frame, frames::B));
-    said::of_spanned(astrephon::span(frames::sheet1(frame), i, a, z))
+    said::of_outcome(astrephon::span(frame.sheet1, frame.i(), frame.a(), frame.b()))
 }
 
-fn packed_length(frame: &[u8]) -> Answer
-    requires { Whole frame.now }
-    ensures { result ≡ answer_of (packed_said frame.now) }
+pub fn packed_length(frame: &Frame) -> Answer
+    ensures { result ≡ answer_of (packed_said frame.now.bytes.now) }
 {
-    let i = frames::number_at(frame, frames::I);
-    let a = FileOffset(frames::number_at(frame, frames::A));
-    let b = FileOffset(frames::number_at(frame, frames::B));
-    said::of_measured(astrephon::packed_len(frames::sheet1(frame), i, a, b))
-}
-
-// Makes the frame's call, if it is one of these.
-pub fn reply(frame: &[u8]) -> Reply
-    requires { Whole frame.now }
-    ensures { result ≡ asked_of (call_of frame.now) frame.now }
-{
-    match frame[0] {
-        calls::CHECK => Reply::Told(check(frame)),
-        calls::EXACT => Reply::Told(exact(frame)),
-        calls::NEXT => Reply::Told(next(frame)),
-        calls::INVERSE => Reply::Told(inverse(frame)),
-        calls::SPAN => Reply::Told(span(frame)),
-        calls::PACKED_LENGTH => Reply::Told(packed_length(frame)),
-        _ => Reply::Unknown,
-    }
+    said::of_outcome(astrephon::packed_len(frame.sheet1, frame.i(), frame.a(), frame.b()))
 }

@@ -1,87 +1,108 @@
 // The calls by their numbers. A frame is answered by the line of what its call answers.
-ghost use Rattle.std.specs.Prelude.{◌≡◌, ◌+◌, ◌*◌, ◌≤◌, length, take};
+ghost use Rattle.std.specs.Prelude.{◌≡◌, ◌+◌, ◌*◌, ◌≤◌, ◌<◌, [], length, take, MatchOption};
 ghost use Rattle.io.specs.Counts.{IsPrefixLen};
-ghost use Rattle.answers.specs.Frames.{call_of, Whole, into_of};
+ghost use Rattle.answers.specs.Calls.{number_of, Decodes};
+ghost use Rattle.answers.specs.Frames.{call_of, into_of};
 ghost use Rattle.answers.specs.Lines.{Room};
 ghost use Rattle.answers.specs.Replies.{leaving, reply_to};
 ghost use Rattle.answers.specs.Replies.{reply};
 
-use crate::{asking, carrying, frames, line, writing};
+use crate::frames::Frame;
+use crate::{asking, carrying, line, writing};
 use said::Answer;
 
-pub const CHECK: u8 = 1;
+#[derive(Clone, Copy, Debug, PartialEq, Eq)]
+pub enum Call {
+    Check,
+    Exact,
+    Next,
+    Inverse,
+    Span,
+    Gather,
+    Scatter,
+    Move,
+    PairMove,
+    SharedRuns,
+    Listing,
+    PackedLength,
+}
 
-pub const EXACT: u8 = 2;
+// A number that names no call.
+#[derive(Clone, Copy, Debug, PartialEq, Eq)]
+pub struct UnknownCall(pub u8);
 
-pub const NEXT: u8 = 3;
+impl TryFrom<u8> for Call {
+    type Error = UnknownCall;
 
-pub const INVERSE: u8 = 4;
+    ghost try_from_gives = { Decodes };
 
-pub const SPAN: u8 = 5;
-
-pub const GATHER: u8 = 6;
-
-pub const SCATTER: u8 = 7;
-
-pub const MOVE: u8 = 8;
-
-pub const PAIR_MOVE: u8 = 9;
-
-pub const SHARED_RUNS: u8 = 10;
-
-pub const LISTING: u8 = 11;
-
-pub const PACKED_LENGTH: u8 = 17;
-
-// What is replied to a call.
-#[derive(Clone, Copy)]
-pub enum Reply {
-    Told(Answer),
-    Unknown,
+    fn try_from(number: u8) -> Result<Self, UnknownCall> {
+        match number {
+            1 => Ok(Call::Check),
+            2 => Ok(Call::Exact),
+            3 => Ok(Call::Next),
+            4 => Ok(Call::Inverse),
+            5 => Ok(Call::Span),
+            6 => Ok(Call::Gather),
+            7 => Ok(Call::Scatter),
+            8 => Ok(Call::Move),
+            9 => Ok(Call::PairMove),
+            10 => Ok(Call::SharedRuns),
+            11 => Ok(Call::Listing),
+            17 => Ok(Call::PackedLength),
+            _ => Err(UnknownCall(number)),
+        }
+    }
 }
 
 // Makes the frame's call on the destination buffer.
-fn reply_to(frame: &[u8], into: &mut [u8]) -> Reply
-    requires fact_1 { Whole frame.now }
-    requires fact_2 { length into.old ≤ 65536 }
-    ensures { leaving result into.new ≡ reply_to (call_of frame.now) frame.now into.old }
+#[tactic(auto, unfolding(crate::specs::Replies::reply_to, crate::specs::Replies::asked_of))]
+fn make(call: Call, frame: &Frame, into: &mut [u8]) -> Answer
+    requires { length into.old ≤ 65536 }
+    ensures { leaving (Some result) into.new ≡ reply_to (number_of call) frame.now.bytes.now into.old }
 {
-    match frame[0] {
-        GATHER => Reply::Told(carrying::gather(frame, into)),
-        SCATTER => Reply::Told(carrying::scatter(frame, into)),
-        MOVE => Reply::Told(carrying::move_tray(frame, into)),
-        PAIR_MOVE => Reply::Told(carrying::move_pair(frame, into)),
-        SHARED_RUNS => Reply::Told(writing::shared_runs(frame, into)),
-        LISTING => Reply::Told(writing::list_sheet(frame, into)),
-        _ => asking::reply(frame),
+    match call {
+        Call::Check => asking::check(frame),
+        Call::Exact => asking::exact(frame),
+        Call::Next => asking::next(frame),
+        Call::Inverse => asking::inverse(frame),
+        Call::Span => asking::span(frame),
+        Call::Gather => carrying::gather(frame, into),
+        Call::Scatter => carrying::scatter(frame, into),
+        Call::Move => carrying::move_tray(frame, into),
+        Call::PairMove => carrying::move_pair(frame, into),
+        Call::SharedRuns => writing::shared_runs(frame, into),
+        Call::Listing => writing::list_sheet(frame, into),
+        Call::PackedLength => asking::packed_length(frame),
     }
 }
 
-// Puts the line of a whole frame into `text`. Its call is made on a copy of its destination buffer, in `into`.
-fn put_reply(frame: &[u8], into: &mut [u8], text: &mut [u8]) -> usize
-    requires fact_1 { Whole frame.now }
-    requires fact_2 { length into.old ≡ length (into_of frame.now) }
-    requires fact_3 { length into.old ≤ 65536 }
-    requires fact_4 { 149 + 2 * length into.old ≤ length text.old }
-    ensures { (take result text.new ≡ reply frame.now) × IsPrefixLen result text.new }
+// Puts the line of a frame into `text`, and answers how long it is. The call is made on a copy of the frame's destination buffer, in `into`.
+fn put_reply(call: Call, frame: &Frame, into: &mut [u8], text: &mut [u8]) -> usize
+    requires called { number_of call ≡ call_of frame.now.bytes.now }
+    requires buffered { length into.old ≡ length (into_of frame.now.bytes.now) }
+    requires short { length into.old ≤ 65536 }
+    requires lined { 149 + 2 * length into.old ≤ length text.old }
+    ensures line { take result text.new ≡ reply frame.now.bytes.now }
+    ensures lent { IsPrefixLen result text.new }
+    ensures some { 0 < result }
 {
-    let size = into.len();
-    copies::copy_run(frames::into(frame), 0, into, 0, size);
-    let Reply::Told(told) = reply_to(frame, into) else {
-        return 0;
-    };
-    line::put_line(told, into, text)
+    into.copy_from_slice(frame.destination);
+    let answer = make(call, frame, into);
+    line::put_line(answer, into, text)
 }
 
-// Puts the frame's line into `text`, and answers how long it is: 0 where the frame is not whole or its call is unknown. `space` is for the destination buffer.
-pub fn answer(frame: &[u8], space: &mut [u8], text: &mut [u8]) -> usize
-    requires { Room (length frame.now) (length space.old) (length text.old) }
-    ensures { (take result text.new ≡ reply frame.now) × IsPrefixLen result text.new }
+// Puts the line of the bytes of a frame into `text`, and answers how long it is: nothing where they are no whole frame or the call is unknown.
+// `space` is for the destination buffer.
+pub fn answer(bytes: &[u8], space: &mut [u8], text: &mut [u8]) -> Option<usize>
+    requires { Room (length bytes.now) (length space.old) (length text.old) }
+    ensures { MatchOption
+        result
+        (reply bytes.now ≡ [])
+        (λ n. (take n text.new ≡ reply bytes.now) × IsPrefixLen n text.new × (0 < n)) }
 {
-    if !frames::is_whole(frame) {
-        return 0;
-    }
-    let into = frames::into(frame);
-    let size = into.len();
-    put_reply(frame, &mut space[..size], text)
+    let frame = Frame::parse(bytes)?;
+    let call = frame.call()?;
+    let size = frame.destination.len();
+    Some(put_reply(call, &frame, &mut space[..size], text))
 }

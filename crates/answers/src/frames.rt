@@ -1,23 +1,25 @@
 // The parts of a frame: a call, four numbers, four blobs. What is said here is of the bytes that follow a frame's first number.
-ghost use Rattle.std.specs.Prelude.{◌≡◌, suc, ◌+◌, ◌≤◌, ◌^◌, min, eqb, length};
+ghost use Rattle.std.specs.Prelude.{◌≡◌, ◌≤◌, ◌<◌, ◌^◌, length, MatchOption};
 ghost use Rattle.sheets.specs.Bytes.{le32};
 ghost use Rattle.answers.specs.Numbers.{le64};
-ghost use Rattle.answers.specs.Frames.{blob_end, Whole, end2, end3, end4, from_of, into_of};
-ghost use Rattle.answers.specs.Frames.{blob, sheet1, sheet2};
+ghost use Rattle.answers.specs.Calls.{number_of, NamesNone};
+ghost use Rattle.answers.specs.Frames.{call_of, blob, blob_end, end1, Whole, i_of, j_of, a_of, b_of, from_of, into_of};
 
+use crate::calls::Call;
 use crate::numbers;
+use astrephon::{FileOffset, SubfileOffset};
 
 // The most bytes that may follow a frame's first number.
 pub const MOST: usize = 65532;
 
 // Where the numbers stand, behind the call, and then the first blob's length.
-pub const I: usize = 1;
+const I: usize = 1;
 
-pub const J: usize = 9;
+const J: usize = 9;
 
-pub const A: usize = 17;
+const A: usize = 17;
 
-pub const B: usize = 25;
+const B: usize = 25;
 
 const BLOBS: usize = 33;
 
@@ -28,85 +30,112 @@ pub fn number(head: &[u8; 4]) -> usize
     sheets::le32_at(head, 0) as usize
 }
 
-// The number of 64 bits at `at`, one of the four.
-pub fn number_at(frame: &[u8], at: usize) -> u64
-    requires fact_1 { Whole frame.now }
-    requires fact_2 { at ≤ 25 }
-    ensures { result ≡ le64 frame.now at }
-{
-    numbers::le64_at(frame, at)
-}
-
-// Where the blob ends whose length stands at `at`; one past the frame's end where it does not fit.
-fn blob_end(frame: &[u8], at: usize) -> usize
+// The blob whose length stands at `at`, and where it ends, if it fits.
+#[tactic(auto, unfolding(crate::specs::Frames::blob, crate::specs::Frames::blob_end))]
+fn blob(bytes: &[u8], at: usize) -> Option<(&[u8], usize)>
     requires { at ≤ 2 ^ 63 }
-    ensures { result ≡ min (blob_end frame.now at) (suc (length frame.now)) }
-{
-    let size = frame.len();
-    if size < at + 4 {
-        return size + 1;
-    }
-    let end = at + 4 + sheets::le32_at(frame, at) as usize;
-    if size < end { size + 1 } else { end }
-}
-
-// Where the second blob ends, and the third begins.
-fn second_end(frame: &[u8]) -> usize
-    ensures { result ≡ min (end2 frame.now) (suc (length frame.now)) }
-{
-    blob_end(frame, blob_end(frame, BLOBS))
-}
-
-// Where the third blob ends, and the last begins.
-fn third_end(frame: &[u8]) -> usize
-    ensures { result ≡ min (end3 frame.now) (suc (length frame.now)) }
-{
-    blob_end(frame, second_end(frame))
-}
-
-// Whether the four blobs fill the frame: it is neither cut nor too long.
-pub fn is_whole(frame: &[u8]) -> bool
-    ensures { result ≡ eqb (end4 frame.now) (length frame.now) }
-{
-    blob_end(frame, third_end(frame)) == frame.len()
-}
-
-// The blob whose length stands at `at`.
-fn blob(frame: &[u8], at: usize) -> &[u8]
-    requires { blob_end frame.now at ≤ length frame.now }
-    ensures { result.now ≡ blob frame.now at }
+    ensures { MatchOption
+        result
+        (length bytes.now < blob_end bytes.now at)
+        (λ part. (part.0.now ≡ blob bytes.now at) × (part.1 ≡ blob_end bytes.now at) × (part.1 ≤ length bytes.now)) }
 {
     let start = at + 4;
-    let end = blob_end(frame, at);
-    &frame[start..end]
+    if bytes.len() < start {
+        return None;
+    }
+    let end = start + sheets::le32_at(bytes, at) as usize;
+    if bytes.len() < end {
+        return None;
+    }
+    Some((&bytes[start..end], end))
 }
 
-pub fn sheet1(frame: &[u8]) -> &[u8]
-    requires { Whole frame.now }
-    ensures { result.now ≡ sheet1 frame.now }
-{
-    blob(frame, BLOBS)
+// A whole frame: its bytes, and the four blobs that fill them. They are neither cut nor too many.
+#[derive(Clone, Copy)]
+pub struct Frame<'a> {
+    bytes: &'a [u8],
+    pub sheet1: &'a [u8],
+    pub sheet2: &'a [u8],
+    // The source buffer.
+    pub source: &'a [u8],
+    // The destination buffer, as it was before the call.
+    pub destination: &'a [u8],
+    ghost whole: { Whole bytes.now },
+    ghost first: { sheet1.now ≡ blob bytes.now 33 },
+    ghost second: { sheet2.now ≡ blob bytes.now (end1 bytes.now) },
+    ghost third: { source.now ≡ from_of bytes.now },
+    ghost fourth: { destination.now ≡ into_of bytes.now },
 }
 
-pub fn sheet2(frame: &[u8]) -> &[u8]
-    requires { Whole frame.now }
-    ensures { result.now ≡ sheet2 frame.now }
-{
-    blob(frame, blob_end(frame, BLOBS))
-}
+impl<'a> Frame<'a> {
+    // The frame that these bytes are, if they are one.
+    #[tactic(auto, using(crate::proofs::Ends::first_fits, crate::proofs::Ends::second_fits, crate::proofs::Ends::third_fits, crate::proofs::Ends::fourth_fits))]
+    pub fn parse(bytes: &'a [u8]) -> Option<Frame<'a>>
+        ensures { MatchOption result (¬ Whole bytes.now) (λ frame. frame.bytes.now ≡ bytes.now) }
+    {
+        let (sheet1, end1) = blob(bytes, BLOBS)?;
+        let (sheet2, end2) = blob(bytes, end1)?;
+        let (source, end3) = blob(bytes, end2)?;
+        let (destination, end4) = blob(bytes, end3)?;
+        if end4 < bytes.len() {
+            return None;
+        }
+        Some(Frame {
+            bytes,
+            sheet1,
+            sheet2,
+            source,
+            destination,
+        })
+    }
 
-// The source buffer.
-pub fn from(frame: &[u8]) -> &[u8]
-    requires { Whole frame.now }
-    ensures { result.now ≡ from_of frame.now }
-{
-    blob(frame, second_end(frame))
-}
+    // The call that its number names, if it names one.
+    #[tactic(auto, using(crate::proofs::Ends::first_fits))]
+    pub fn call(&self) -> Option<Call>
+        ensures { let number = call_of self.now.bytes.now in
+            MatchOption result (NamesNone number) (λ call. number_of call ≡ number) }
+    {
+        Call::try_from(self.bytes[0]).ok()
+    }
 
-// The destination buffer before the call.
-pub fn into(frame: &[u8]) -> &[u8]
-    requires { Whole frame.now }
-    ensures { result.now ≡ into_of frame.now }
-{
-    blob(frame, third_end(frame))
+    // One of the four numbers.
+    #[tactic(auto, using(crate::proofs::Ends::first_fits))]
+    fn number_at(&self, at: usize) -> u64
+        requires { at ≤ 25 }
+        ensures { result ≡ le64 self.now.bytes.now at }
+    {
+        numbers::le64_at(self.bytes, at)
+    }
+
+    pub fn i(&self) -> u64
+        ensures { result ≡ i_of self.now.bytes.now }
+    {
+        self.number_at(I)
+    }
+
+    pub fn j(&self) -> u64
+        ensures { result ≡ j_of self.now.bytes.now }
+    {
+        self.number_at(J)
+    }
+
+    // The number a, which most calls take as an offset in the file,
+    pub fn a(&self) -> FileOffset
+        ensures { result.0 ≡ a_of self.now.bytes.now }
+    {
+        FileOffset(self.number_at(A))
+    }
+
+    // and `inverse` as one in the element's bytes.
+    pub fn a_in_subfile(&self) -> SubfileOffset
+        ensures { result.0 ≡ a_of self.now.bytes.now }
+    {
+        SubfileOffset(self.number_at(A))
+    }
+
+    pub fn b(&self) -> FileOffset
+        ensures { result.0 ≡ b_of self.now.bytes.now }
+    {
+        FileOffset(self.number_at(B))
+    }
 }

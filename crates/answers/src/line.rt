@@ -1,7 +1,6 @@
 // An answer as a line of text: its numbers in decimal, a space after each, and the destination buffer in hex.
 ghost use Rattle.std.specs.Prelude.{◌≡◌, ◌+◌, ◌*◌, ◌≤◌, ◌<◌, length, take};
 ghost use Rattle.io.specs.Counts.{IsPrefixLen};
-ghost use Rattle.io.specs.Digits.{hex_digit_ascii};
 ghost use Rattle.words.specs.Texts.{Put};
 ghost use Rattle.answers.specs.Lines.{field, fields, hex, buffer, line};
 
@@ -26,37 +25,29 @@ fn put_numbers(answer: Answer, text: &mut [u8]) -> usize
     requires { 147 ≤ length text.old }
     ensures { Put (fields answer) 147 0 result text.old text.new }
 {
-    let end1 = put_field(answer.number, text, 0);
-    let end2 = put_field(answer.sheet, text, end1);
-    let end3 = put_field(answer.place, text, end2);
-    let end4 = put_field(answer.flag, text, end3);
-    let end5 = put_field(answer.value, text, end4);
-    let end6 = put_field(answer.value2, text, end5);
-    put_field(answer.value3, text, end6)
+    let numbers = [
+        answer.number,
+        answer.sheet,
+        answer.place,
+        answer.flag,
+        answer.value,
+        answer.value2,
+        answer.value3,
+    ];
+    let mut end = 0;
+    for number in numbers {
+        end = put_field(number, text, end);
+    }
+    end
 }
 
-// The character of a digit of base 16.
-fn hex_digit(d: u8) -> u8
-    requires { d < 16 }
-    ensures { result ≡ hex_digit_ascii d }
-{
-    if d < 10 { b'0' + d } else { b'a' - 10 + d }
-}
-
-// Puts bytes in hex into `text` at `at`, and answers where they end.
+// Puts bytes in hex into `text` at `at`, and answers where they end. Just the room that they take is lent, so they are never refused.
 fn put_hex(bytes: &[u8], text: &mut [u8], at: usize) -> usize
     requires { at + 2 * length bytes.now ≤ length text.old }
     ensures { Put (hex bytes.now) (2 * length bytes.now) at result text.old text.new }
 {
-    let mut end = at;
-    let mut i = 0;
-    while i < bytes.len() {
-        let byte = bytes[i];
-        text[end] = hex_digit(byte / 16);
-        text[end + 1] = hex_digit(byte % 16);
-        end += 2;
-        i += 1;
-    }
+    let end = at + 2 * bytes.len();
+    let _ = hex::encode_to_slice(bytes, &mut text[at..end]);
     end
 }
 
@@ -65,7 +56,7 @@ fn put_buffer(bytes: &[u8], text: &mut [u8], at: usize) -> usize
     requires { at + 2 * length bytes.now + 1 ≤ length text.old }
     ensures { Put (buffer bytes.now) (2 * length bytes.now + 1) at result text.old text.new }
 {
-    if bytes.len() == 0 {
+    if bytes.is_empty() {
         text[at] = b'-';
         return at + 1;
     }
@@ -75,7 +66,9 @@ fn put_buffer(bytes: &[u8], text: &mut [u8], at: usize) -> usize
 // Puts the line of an answer and of the destination buffer into `text`, and answers how long it is.
 pub fn put_line(answer: Answer, into: &[u8], text: &mut [u8]) -> usize
     requires { 149 + 2 * length into.now ≤ length text.old }
-    ensures { (take result text.new ≡ line answer into.now) × IsPrefixLen result text.new }
+    ensures line { take result text.new ≡ line answer into.now }
+    ensures lent { IsPrefixLen result text.new }
+    ensures some { 0 < result }
 {
     let numbers = put_numbers(answer, text);
     let end = put_buffer(into, text, numbers);

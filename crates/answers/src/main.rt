@@ -17,29 +17,36 @@ mod writing;
 ghost use Rattle.std.specs.Prelude.{length};
 ghost use Rattle.answers.specs.Lines.{Room};
 
+use std::ops::ControlFlow;
+
+// The kit's `io`, by the numbers of the streams, and not std's `Read` and `Write`: those rest on one contract of the C library's more, that of `errno`.
 const INPUT: i32 = 0;
 
 const OUTPUT: i32 = 1;
 
 // Says that the input is no frame, and that the program ends.
-fn refuse() -> bool {
+fn refuse() -> ControlFlow<()> {
     io::write_all(OUTPUT, b"bad frame\n");
-    false
+    ControlFlow::Break(())
 }
 
-// Prints the line of a frame, and answers whether to go on. Here and below `buffer` has room for the frame's destination buffer, and `text` for its line.
-fn print_answer(frame: &[u8], buffer: &mut [u8], text: &mut [u8]) -> bool
+// Prints the line of a frame, and answers whether to go on: not after a bad one, nor where it cannot be printed. Here and below `buffer` has room for the
+// frame's destination buffer, and `text` for its line.
+fn print_answer(frame: &[u8], buffer: &mut [u8], text: &mut [u8]) -> ControlFlow<()>
     requires { Room (length frame.now) (length buffer.old) (length text.old) }
 {
-    let n = calls::answer(frame, buffer, text);
-    if n == 0 {
+    let Some(n) = calls::answer(frame, buffer, text) else {
         return refuse();
+    };
+    if io::write_all(OUTPUT, &text[..n]) {
+        ControlFlow::Continue(())
+    } else {
+        ControlFlow::Break(())
     }
-    io::write_all(OUTPUT, &text[..n])
 }
 
 // Reads what fills the frame, and answers it.
-fn answer_frame(frame: &mut [u8], buffer: &mut [u8], text: &mut [u8]) -> bool
+fn answer_frame(frame: &mut [u8], buffer: &mut [u8], text: &mut [u8]) -> ControlFlow<()>
     requires { Room (length frame.old) (length buffer.old) (length text.old) }
 {
     let got = io::read_full(INPUT, frame);
@@ -51,13 +58,14 @@ fn answer_frame(frame: &mut [u8], buffer: &mut [u8], text: &mut [u8]) -> bool
 
 // Reads one frame into `space`, which has room for the longest, and prints its line. Answers whether to go on: not after the last frame, and
 // not after a bad one.
-fn answer_one(space: &mut [u8], buffer: &mut [u8], text: &mut [u8]) -> bool
+#[tactic(auto, using(crate::proofs::Ends::front_room))]
+fn answer_one(space: &mut [u8], buffer: &mut [u8], text: &mut [u8]) -> ControlFlow<()>
     requires { Room (length space.old) (length buffer.old) (length text.old) }
 {
     let mut head = [0u8; 4];
     let got = io::read_full(INPUT, &mut head);
     if got == 0 {
-        return false;
+        return ControlFlow::Break(());
     }
     if got < 4 {
         return refuse();
@@ -69,13 +77,14 @@ fn answer_one(space: &mut [u8], buffer: &mut [u8], text: &mut [u8]) -> bool
     answer_frame(&mut space[..n], buffer, text)
 }
 
-// A proved loop has to end, and nothing says that the input does: so it counts its turns down, from a number that no run uses up.
+// Nothing says that the input ends, and a proved loop has to: it has more turns than any run uses up.
 fn answer_all(space: &mut [u8], buffer: &mut [u8], text: &mut [u8])
     requires { Room (length space.old) (length buffer.old) (length text.old) }
 {
-    let mut turns = u64::MAX;
-    while turns > 0 && answer_one(space, buffer, text) {
-        turns -= 1;
+    for _ in 0..u64::MAX {
+        if answer_one(space, buffer, text).is_break() {
+            return;
+        }
     }
 }
 

@@ -6,33 +6,21 @@ ghost use Rattle.answers.specs.Numbers.{le64, lowest, slots_in, with_slots};
 // The slots of the longest buffer that a frame has.
 pub const MOST_SLOTS: usize = 8192;
 
-// A list of zeros. Its contract says its length alone, which is all that lending a part of it needs.
-pub fn blank_list() -> [u64; MOST_SLOTS]
-    ensures { 8192 ≡ length result }
-{
-    [0; MOST_SLOTS]
-}
-
-// The number at `at`.
+// The number at `at`. It is not `u64::from_le_bytes`, for which the eight bytes would first be copied into an array.
+#[tactic(auto, unfolding(crate::specs::Numbers::le64))]
 pub fn le64_at(bytes: &[u8], at: usize) -> u64
     requires { at + 8 ≤ length bytes.now }
     ensures { result ≡ le64 bytes.now at }
 {
-    sheets::le32_at(bytes, at) as u64 + 4294967296 * sheets::le32_at(bytes, at + 4) as u64
+    u64::from(sheets::le32_at(bytes, at)) + 4294967296 * u64::from(sheets::le32_at(bytes, at + 4))
 }
 
 // Puts a number into the bytes at `at`.
-fn put_slot(v: u64, bytes: &mut [u8], at: usize)
+fn put_slot(number: u64, bytes: &mut [u8], at: usize)
     requires { at + 8 ≤ length bytes.old }
-    ensures { bytes.new ≡ paste bytes.old at (lowest 8 v) 8 }
+    ensures { bytes.new ≡ paste bytes.old at (lowest 8 number) 8 }
 {
-    let mut rest = v;
-    let mut k = 0;
-    while k < 8 {
-        bytes[at + k] = (rest % 256) as u8;
-        rest /= 256;
-        k += 1;
-    }
+    bytes[at..at + 8].copy_from_slice(&number.to_le_bytes());
 }
 
 // Fills the list with the first slots of a buffer.
@@ -40,10 +28,8 @@ pub fn take_slots(buffer: &[u8], list: &mut [u64])
     requires { 8 * length list.old ≤ length buffer.now }
     ensures { list.new ≡ slots_in (length list.old) buffer.now }
 {
-    let mut i = 0;
-    while i < list.len() {
-        list[i] = le64_at(buffer, 8 * i);
-        i += 1;
+    for (i, slot) in list.iter_mut().enumerate() {
+        *slot = le64_at(buffer, 8 * i);
     }
 }
 
@@ -52,9 +38,7 @@ pub fn put_slots(list: &[u64], buffer: &mut [u8])
     requires { 8 * length list.now ≤ length buffer.old }
     ensures { buffer.new ≡ with_slots list.now buffer.old }
 {
-    let mut i = 0;
-    while i < list.len() {
-        put_slot(list[i], buffer, 8 * i);
-        i += 1;
+    for (i, slot) in list.iter().enumerate() {
+        put_slot(*slot, buffer, 8 * i);
     }
 }

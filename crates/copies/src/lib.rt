@@ -13,8 +13,7 @@ pub fn copy_run(src: &[u8], from: usize, dst: &mut [u8], to: usize, n: usize)
     ensures { dst.new ≡ paste dst.old to (drop from src.now) n }
 {
     match n {
-        0 => {}
-        1 => dst[to] = src[from],
+        0..=1 => copy_bytes(src, from, dst, to, n),
         2..=3 => copy_ends::<2>(src, from, dst, to, n),
         4..=7 => copy_ends::<4>(src, from, dst, to, n),
         8..=15 => copy_ends::<8>(src, from, dst, to, n),

@@ -33,7 +33,7 @@ pub fn selection_of(layout: &Layout, size: u32, element: usize) -> Selection
 }
 
 // The subfile of element `element` of a layout whose pattern is shared out.
-pub fn subfile_of<'a>(layout: &'a Layout, size: u32, element: usize) -> Subfile<'a>
+pub fn subfile_of(layout: &Layout, size: u32, element: usize) -> Subfile<'_>
     requires shared { PatternOk layout.now size }
     requires there { element < layout.now.elements }
     ensures selection { result.selection ≡ selection_of layout.now size element }

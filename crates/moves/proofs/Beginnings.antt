@@ -1,11 +1,10 @@
--- The first selected byte of a window, and a place in its period. Assumes nothing.
+-- The first selected byte of a window, and the two ways of `further`. Assumes nothing.
 use mathlib.Core.Path.{◌≡◌, refl, sym, ap, ◌∙◌}
 use mathlib.Core.Bool.{Bool, false}
 use mathlib.Core.List.{List}
 use Prim.Native.Nat.{ℕ, ◌+◌, ◌-◌, ◌%◌, ◌^◌, ◌≤◌, ◌<◌}
-use native.Mathlib.Nat.{zero-add, add-sub_of_le, mod-eq_of_lt, mod-eq-sub-mod}
+use native.Mathlib.Nat.{zero-add, add-sub_of_le}
 use native.Mathlib.Omega.{arith}
-use lib.ListN.{get_or}
 use borrow.Author.Tests.{le-leb, lt-leb}
 use Rattle.counting.specs.Count.{count_below}
 use Rattle.counting.proofs.Cases.{by_test}
@@ -14,16 +13,10 @@ use Rattle.counting.proofs.Nths.{rank_order}
 use Rattle.counting.proofs.Gathers.{count_in_skip}
 use Rattle.maps.specs.declared.Selection.{Selection}
 use Rattle.maps.specs.Selected.{Byte}
+use Rattle.moves.specs.declared.ahead.Stride.{Stride}
 use Rattle.moves.specs.declared.walks.Walk.{Walk}
 use Rattle.moves.specs.Strides.{onwards, furthers}
 use Rattle.moves.specs.Walks.{Begun}
-
--- ---- the two ways of `around`
-pub around_inside : (u period : ℕ) → u < period → u ≡ u % period
-around_inside u period h = sym (mod-eq_of_lt h)
-
-pub around_past : (u period : ℕ) → u < period + period → period ≤ u → u - period ≡ u % period
-around_past u period l h = sym (mod-eq-sub-mod h ∙ mod-eq_of_lt (let k : u - period < period = omega arith in k))
 
 -- ---- x is the byte that has the rank of a
 pub rank_near : (p : ℕ → Bool) (a y : ℕ) → y ≡ count_below p a → a < 2 ^ 40 → y < 2 ^ 40
@@ -51,21 +44,16 @@ module _ (p : ℕ → Bool) (a y x : ℕ) (e : y ≡ count_below p a) (B : Byte 
         first = refl;
       }
 
--- ---- `onward`
-pub onward_is : (s : Selection) (hops : List ℕ) (w : Walk) (run read place : ℕ) → read ≡ get_or hops w.place 0 → place ≡ (w.place + (read + 1)) % s.period
-    → ◌≡◌ {A = Walk} (record { at = w.at + (read + 1); place = place; packed = w.packed + run }) (onwards s hops w run)
-onward_is s hops w run read place e f = rw (f, e) refl
-
 -- ---- the two ways of `further`
-pub furthers_on : (s : Selection) (hops : List ℕ) (w : Walk) (run len : ℕ) → run ≤ len → furthers s hops w run len ≡ onwards s hops w run
+pub furthers_on : (s : Selection) (strides : List Stride) (w : Walk) (run len : ℕ) → run ≤ len → furthers s strides w run len ≡ onwards s strides w run
 unfolding furthers
-furthers_on s hops w run len h = rw (le-leb run len h) refl
+furthers_on s strides w run len h = rw (le-leb run len h) refl
 
-pub furthers_in : (s : Selection) (hops : List ℕ) (w : Walk) (run len : ℕ) → len < run
-    → furthers s hops w run len ≡ record { at = w.at + len; place = (w.place + len) % s.period; packed = w.packed + len }
+pub furthers_in : (s : Selection) (strides : List Stride) (w : Walk) (run len : ℕ) → len < run
+    → furthers s strides w run len ≡ record { at = w.at + len; place = (w.place + len) % s.period; packed = w.packed + len }
 unfolding furthers
-furthers_in s hops w run len h = rw (lt-leb run len h) refl
+furthers_in s strides w run len h = rw (lt-leb run len h) refl
 
-pub further_in : (s : Selection) (hops : List ℕ) (w : Walk) (run len : ℕ) → len < run → (place : ℕ) → place ≡ (w.place + len) % s.period
-    → ◌≡◌ {A = Walk} (record { at = w.at + len; place = place; packed = w.packed + len }) (furthers s hops w run len)
-further_in s hops w run len h place e = rw e (sym (furthers_in s hops w run len h))
+pub further_in : (s : Selection) (strides : List Stride) (w : Walk) (run len : ℕ) → len < run → (place : ℕ) → place ≡ (w.place + len) % s.period
+    → ◌≡◌ {A = Walk} (record { at = w.at + len; place = place; packed = w.packed + len }) (furthers s strides w run len)
+further_in s strides w run len h place e = rw e (sym (furthers_in s strides w run len h))

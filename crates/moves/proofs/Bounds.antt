@@ -1,35 +1,25 @@
 -- What `gather` and `scatter` ask of what they call, and an empty window. Assumes nothing.
-use mathlib.Core.Path.{◌≡◌, refl, sym, ◌∙◌}
+use mathlib.Core.Path.{◌≡◌, sym, ◌∙◌}
 use mathlib.Core.Bool.{Bool}
 use mathlib.Core.List.{List}
-use Prim.Native.Nat.{ℕ, ◌-◌, ◌^◌, ◌≤◌, ◌<◌}
+use Prim.Native.Nat.{ℕ, ◌-◌, ◌≤◌, ◌<◌}
 use native.Mathlib.Omega.{arith}
-use lib.ListN.{length, replicate, length-replicate}
+use lib.ListN.{length}
 use lib.Seq.{take_all}
 use Rattle.counting.specs.Gather.{in_file, gathered, scattered}
 use Rattle.counting.proofs.Counts.{count_in_le}
 use Rattle.counting.proofs.Gathers.{tabulated_ext, tabulated_whole, gathered_none}
+use Rattle.families.specs.declared.Family.{Family}
 use Rattle.maps.specs.declared.Selection.{Selection}
-use Rattle.maps.specs.declared.Window.{Window}
+use Rattle.maps.specs.declared.window.Window.{Window}
 use Rattle.maps.specs.Selected.{belongs}
-use Rattle.runs.specs.Walking.{SideOk, WindowOk}
-use Rattle.moves.specs.Strides.{Blank}
+use Rattle.runs.specs.Walking.{SideOk}
 use Rattle.moves.specs.Walks.{Buffers, Carries}
 
--- ---- tables of zeros, of n places each
-pub tables_ask : {s : Selection} {row : List ℕ} {window : Window} {n m k : ℕ} → SideOk s row n window.start.0 → WindowOk window
-    → Buffers (belongs s row) window m k → window.start.0 < window.end.0 → n ≤ 2 ^ 16
-    → let zeros = replicate {A = ℕ} n 0 in Carries s row window m k × Blank s row zeros zeros zeros
-tables_ask {n = n} side near buffers some small =
-    let long : length (replicate {A = ℕ} n 0) ≡ n = length-replicate {A = ℕ} n 0 in
-    let held = side.fits.period in (
-      record { ok = side.ok; after = side.after; some = some; near = near.near; buffers = buffers },
-      record {
-        fits = rw long side.fits;
-        zeros = rw long refl;
-        room = record { runs_held = omega (arith, long, held); hops_held = omega (arith, long, held); short = omega (arith, held) };
-      },
-    )
+-- ---- a window that is not empty
+pub carries_of : {s : Selection} {families : List Family} {window : Window} {n m k : ℕ} → SideOk s families n window.start.0
+    → Buffers (belongs s families) window m k → window.start.0 < window.end.0 → Carries s families window m k
+carries_of side buffers some = record { after = side.after; some = some; buffers = buffers }
 
 -- ---- an empty window
 module _ {p : ℕ → Bool} {window : Window} (file packed : List ℕ) (B : Buffers p window (length file) (length packed))

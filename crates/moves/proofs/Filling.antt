@@ -1,4 +1,4 @@
--- The loop of `fill_strides`: what is known of every owner at a place, and the tables filled from there on. Assumes nothing.
+-- The loop of `fill_strides`: what is known of every owner at a place, and the table filled from there on. Assumes nothing.
 use mathlib.Core.Path.{◌≡◌, refl, sym, ap, ◌∙◌}
 use mathlib.Core.Bool.{Bool, true}
 use mathlib.Core.List.{List}
@@ -9,9 +9,10 @@ use lib.ListN.{length, get_or, set, length-set}
 use lib.Seq.{get_or-set_same, get_or-set_other}
 use borrow.Author.Tests.{eqb-true, eq-eqb, ne_eqb}
 use Rattle.counting.proofs.Cases.{same_or_not}
-use Rattle.moves.specs.Strides.{Ahead, AheadBy, around, Room}
-use Rattle.moves.specs.Owning.{held_by, Nexts, AllFilled}
-use Rattle.moves.proofs.Facing.{Facing, facing_start, facing_turn, facing_wider, facing_longer, facing_near, facing_ahead}
+use Rattle.moves.specs.declared.ahead.Stride.{Stride}
+use Rattle.moves.specs.Strides.{stride_at, Ahead, AheadBy, around, Room}
+use Rattle.moves.specs.Owning.{held_by, Nexts}
+use Rattle.moves.proofs.Facing.{Facing, facing_turn, facing_wider, facing_longer, facing_near, facing_ahead}
 
 -- owner o faces a run from u on and then its place in `nexts`; at first that is one of the next period
 abbrev Owner : (owners : List ℕ) → (period : ℕ) → (nexts₀ : List ℕ) → (u run : ℕ) → (nexts : List ℕ) → (o : ℕ) → Type 0
@@ -30,50 +31,26 @@ pub record Turned (owners : List ℕ) (period : ℕ) (nexts₀ : List ℕ) (u la
   pub faces : Faces owners period nexts₀ u last run gap nexts
   pub is : last ≡ get_or owners (u - 1) 0
 
--- the tables are filled from place u on
-pub record Filling (owners : List ℕ) (period : ℕ) (nexts₀ runs₀ hops₀ : List ℕ) (u last run gap : ℕ) (nexts runs hops : List ℕ) : Type 0 where
+-- the table is filled from place u on
+pub record Filling (owners : List ℕ) (period : ℕ) (nexts₀ : List ℕ) (u last run gap : ℕ) (nexts : List ℕ) (strides : List Stride) : Type 0 where
   pub faces : Faces owners period nexts₀ u last run gap nexts
   pub begun : (get_or owners (u - 1) 0 ≡ last → ⊥) → 0 < run
-  pub room : Room period runs hops
-  pub runs_same : length runs ≡ length runs₀
-  pub hops_same : length hops ≡ length hops₀
+  pub room : Room period strides
   pub each : (o v : ℕ) → held_by owners o (get_or nexts₀ o 0 - period) ≡ true → u ≤ v → v < period → held_by owners o v ≡ true
-      → AheadBy (around (held_by owners o) period) v period runs hops v
+      → AheadBy (around (held_by owners o) period) v period strides v
 
 -- what the code asks to write down what place u - 1 faces
-pub record Fitting (u run gap : ℕ) (runs hops : List ℕ) : Type 0 where
+pub record Fitting (u run gap : ℕ) (strides : List Stride) : Type 0 where
   pub small : run + gap < 2 ^ 16
-  pub runs_held : u - 1 < length runs
-  pub hops_held : u - 1 < length hops
+  pub held : u - 1 < length strides
 
--- the tables look ahead by the two numbers at a place
-by_numbers : {p : ℕ → Bool} {x period run hop u : ℕ} {runs hops : List ℕ} → Ahead p x (run + 1) (hop + 1) → hop + 1 ≤ period
-    → get_or runs u 0 ≡ run → get_or hops u 0 ≡ hop → AheadBy p x period runs hops u
-by_numbers A short e f = record { ahead = rw (e, f) A; short = rw f short }
+-- the table looks ahead by what stands at a place
+by_stride : {p : ℕ → Bool} {x period u : ℕ} {strides : List Stride} (stride : Stride) → Ahead p x (stride.run + 1) (stride.hop + 1)
+    → stride.hop + 1 ≤ period → stride_at strides u ≡ stride → AheadBy p x period strides u
+by_stride stride A short e = record { ahead = rw e A; short = rw e short }
 
--- ---- past the last place
-pub filling_start : {owners : List ℕ} {period : ℕ} {nexts runs hops : List ℕ} → Nexts owners period nexts → Room period runs hops
-    → let last = get_or owners (period - 1) 0 in Filling owners period nexts runs hops period last 0 (get_or nexts last 0 - period) nexts runs hops
-filling_start {owners} {period} {nexts} N room =
-    let start : (o : ℕ) → o < length nexts → Owner owners period nexts period 0 nexts o =
-    λ o l. facing_start (N.past o l) (N.near o l) (λ y k. N.none o y l k) in
-    let last = N.there (period - 1) (omega (arith, N.some)) in
-    record {
-      faces = record { same = refl; there = last; here = start _ last; apart = omega (arith, N.past _ last); others = λ o l d. start o l };
-      begun = λ d. absurd (d refl);
-      room = room;
-      runs_same = refl;
-      hops_same = refl;
-      each = λ o v h k l. absurd (omega arith);
-    }
-
-module _ {owners : List ℕ} {period : ℕ} {nexts₀ runs₀ hops₀ : List ℕ} {u last run gap : ℕ} {nexts runs hops : List ℕ}
-    (F : Filling owners period nexts₀ runs₀ hops₀ u last run gap nexts runs hops) where
-  pub filling_all : u ≤ 0 → AllFilled owners period nexts₀ runs hops
-  filling_all h = record {
-    each = λ o held. record { runs_held = F.room.runs_held; hops_held = F.room.hops_held; each = λ v l e. F.each o v held (omega arith) l e };
-  }
-
+module _ {owners : List ℕ} {period : ℕ} {nexts₀ : List ℕ} {u last run gap : ℕ} {nexts : List ℕ} {strides : List Stride}
+    (F : Filling owners period nexts₀ u last run gap nexts strides) where
   abbrev v : ℕ
   v = u - 1
 
@@ -130,43 +107,36 @@ module _ {owners : List ℕ} {period : ℕ} {nexts₀ runs₀ hops₀ : List ℕ
       hop_short : hop + 1 ≤ period
       hop_short = omega (arith, T.faces.apart, facing_near T.faces.here some v_held)
 
-      -- both numbers, less one, fit 16 bits, and the tables have a place for them
-      pub filling_fits : Fitting u run' gap' runs hops
-      filling_fits = record {
-        small = omega (arith, hop_short, F.room.short);
-        runs_held = omega (arith, v_inside, F.room.runs_held);
-        hops_held = omega (arith, v_inside, F.room.hops_held);
-      }
+      -- both numbers, less one, fit 16 bits, and the table has a place for them
+      pub filling_fits : Fitting u run' gap' strides
+      filling_fits = record { small = omega (arith, hop_short, F.room.short); held = omega (arith, v_inside, F.room.held) }
 
-      v_by : held_by owners last' (get_or nexts₀ last' 0 - period) ≡ true
-          → AheadBy (around (held_by owners last') period) v period (set runs v run') (set hops v hop) v
-      v_by held =
-          let is : hop ≡ get_or nexts' last' 0 - v - 1 = omega (arith, T.faces.apart, some) in
-          by_numbers
-          (rw is (facing_ahead T.faces.here some v_held held))
-          hop_short
-          (get_or-set_same runs v run' 0 filling_fits.runs_held)
-          (get_or-set_same hops v hop 0 filling_fits.hops_held)
+      module _ (stride : Stride) (its_run : stride.run ≡ run') (its_hop : stride.hop ≡ hop) where
+        v_by : held_by owners last' (get_or nexts₀ last' 0 - period) ≡ true
+            → AheadBy (around (held_by owners last') period) v period (set strides v stride) v
+        v_by held =
+            let is : hop ≡ get_or nexts' last' 0 - v - 1 = omega (arith, T.faces.apart, some) in
+            by_stride stride
+            (rw (its_run, its_hop, is) (facing_ahead T.faces.here some v_held held))
+            (rw its_hop hop_short)
+            (get_or-set_same strides v stride _ filling_fits.held)
 
-      pub filling_next : Filling owners period nexts₀ runs₀ hops₀ v last' (run' + 1) gap' nexts' (set runs v run') (set hops v hop)
-      filling_next =
-          let long : length (set runs v run') ≡ length runs = length-set runs v run' in
-          let far : length (set hops v hop) ≡ length hops = length-set hops v hop in
-          record {
-            faces = record {
-              same = T.faces.same;
-              there = T.faces.there;
-              here = facing_longer T.faces.here some v_held;
-              apart = omega (arith, T.faces.apart, some);
-              others = λ o l d. facing_wider (T.faces.others o l d) some refl (ne_eqb owner o (λ e. d (sym e ∙ sym T.is)));
-            };
-            begun = λ _. omega arith;
-            room = record { runs_held = omega (arith, long, F.room.runs_held); hops_held = omega (arith, far, F.room.hops_held); short = F.room.short };
-            runs_same = long ∙ F.runs_same;
-            hops_same = far ∙ F.hops_same;
-            each = λ o w held k l e. ⊎_elim
-                (λ d. let is : o ≡ last' = sym (eqb-true _ o e) ∙ ap (λ (z : ℕ). get_or owners z 0) d ∙ sym T.is in rw (d, is) (v_by (rw is at held)))
-                (λ d. let A = F.each o w held (omega arith) l e in
-                by_numbers A.ahead A.short (get_or-set_other runs v w run' 0 d) (get_or-set_other hops v w hop 0 d))
-                (same_or_not w v);
-          }
+        pub filling_next : Filling owners period nexts₀ v last' (run' + 1) gap' nexts' (set strides v stride)
+        filling_next =
+            let long : length (set strides v stride) ≡ length strides = length-set strides v stride in
+            record {
+              faces = record {
+                same = T.faces.same;
+                there = T.faces.there;
+                here = facing_longer T.faces.here some v_held;
+                apart = omega (arith, T.faces.apart, some);
+                others = λ o l d. facing_wider (T.faces.others o l d) some refl (ne_eqb owner o (λ e. d (sym e ∙ sym T.is)));
+              };
+              begun = λ _. omega arith;
+              room = record { held = omega (arith, long, F.room.held); short = F.room.short };
+              each = λ o w held k l e. ⊎_elim
+                  (λ d. let is : o ≡ last' = sym (eqb-true _ o e) ∙ ap (λ (z : ℕ). get_or owners z 0) d ∙ sym T.is in rw (d, is) (v_by (rw is at held)))
+                  (λ d. let A = F.each o w held (omega arith) l e in
+                  by_stride (stride_at strides w) A.ahead A.short (get_or-set_other strides v w stride _ d))
+                  (same_or_not w v);
+            }

@@ -12,11 +12,13 @@ use Rattle.counting.proofs.Cases.{lt_or_le}
 use Rattle.counting.proofs.Counts.{count_zero}
 use Rattle.counting.proofs.Periods.{owns_none, owns_at, owns_periodic}
 use Rattle.families.specs.Forest.{has}
+use Rattle.families.specs.declared.Family.{Family}
 use Rattle.maps.specs.declared.Selection.{Selection}
 use Rattle.maps.specs.Selected.{families_of, belongs, Byte, SelectionOk}
 use Rattle.maps.proofs.Mapped.{period_some}
 use Rattle.runs.specs.Walking.{marked, tabled, FitsTable, Marks}
 use Rattle.runs.proofs.Marked.{marks_of, table_ok, table_is}
+use Rattle.moves.specs.declared.ahead.Stride.{Stride}
 use Rattle.moves.specs.Strides.{Ahead, AheadBy, around, First, Filled, Strides}
 use Rattle.moves.specs.Owning.{held_by, Nexts, AllFilled}
 use Rattle.moves.proofs.Beginnings.{none_between}
@@ -70,7 +72,7 @@ module _ (d P : ℕ) (q : ℕ → Bool) where
     from_place y =
         ap p (let e : x + y ≡ d + (x - d + y) = omega arith in e) ∙ owns_at d P q (x - d + y) ∙ ap q (sym (mod-add-mod (x - d) P y))
 
-    pub ahead_by_place : {runs hops : List ℕ} → 0 < P → Filled q P runs hops → p x ≡ true → AheadBy p x P runs hops ((x - d) % P)
+    pub ahead_by_place : {strides : List Stride} → 0 < P → Filled q P strides → p x ≡ true → AheadBy p x P strides ((x - d) % P)
     ahead_by_place some F e =
         let here : q ((x - d) % P) ≡ true = sym (owns_at d P q (x - d)) ∙ ap p (let z : d + (x - d) ≡ x = omega arith in z) ∙ e in
         let A = F.each ((x - d) % P) (mod-lt (x - d) some) here in
@@ -97,20 +99,20 @@ module _ (marks : List ℕ) {period first : ℕ} (F : First (marked marks) perio
     none = λ o y l. (marks_next o l).1.1 y;
   }
 
-  marks_filled : {runs hops : List ℕ} → AllFilled marks period (nexts_by period first) runs hops → Filled (marked marks) period runs hops
+  marks_filled : {strides : List Stride} → AllFilled marks period (nexts_by period first) strides → Filled (marked marks) period strides
   marks_filled A = A.each 1 (ap (marked marks) (let e : period + first - period ≡ first = omega arith in e) ∙ F.picked)
 
 -- ---- `look_ahead`: the marks of a selection stand for it
-module _ {s : Selection} {row : List ℕ} (ok : SelectionOk s row) (x : ℕ) (B : Byte (belongs s row) 0 x) where
+module _ {s : Selection} {families : List Family} (ok : SelectionOk s families) (x : ℕ) (B : Byte (belongs s families) 0 x) where
   pub look_from : s.from ≤ x
   unfolding belongs
-  look_from = byte_from s.from s.period (has (families_of s row)) x B
+  look_from = byte_from s.from s.period (has (families_of s families)) x B
 
   pub look_near : x - s.from < s.period
   unfolding belongs
-  look_near = (byte_first s.from s.period (has (families_of s row)) x B (period_some ok)).inside
+  look_near = (byte_first s.from s.period (has (families_of s families)) x B (period_some ok)).inside
 
-  module _ {n : ℕ} (fits : FitsTable s row n) (marks : List ℕ) (is : marks ≡ marks_of (families_of s row) n) where
+  module _ {n : ℕ} (fits : FitsTable s families n) (marks : List ℕ) (is : marks ≡ marks_of (families_of s families) n) where
     look_first : First (marked marks) s.period (x - s.from)
     unfolding tabled
     look_first =
@@ -119,15 +121,14 @@ module _ {s : Selection} {row : List ℕ} (ok : SelectionOk s row) (x : ℕ) (B 
     pub look_nexts : Nexts marks s.period (nexts_by s.period (x - s.from))
     look_nexts = marks_nexts marks look_first (table_ok ok fits marks is).marks
 
-    strides_tabled : {runs hops : List ℕ} → Filled (marked marks) s.period runs hops → Strides s (tabled s marks) runs hops
+    strides_tabled : {strides : List Stride} → Filled (marked marks) s.period strides → Strides s (tabled s marks) strides
     unfolding tabled
     strides_tabled F = record {
       some = period_some ok;
-      runs_held = F.runs_held;
-      hops_held = F.hops_held;
+      held = F.held;
       each = λ z after e. ahead_by_place s.from s.period (marked marks) z after (period_some ok) F e;
     }
 
-    pub look_strides : {runs hops : List ℕ} → AllFilled marks s.period (nexts_by s.period (x - s.from)) runs hops
-        → Strides s (belongs s row) runs hops
+    pub look_strides : {strides : List Stride} → AllFilled marks s.period (nexts_by s.period (x - s.from)) strides
+        → Strides s (belongs s families) strides
     look_strides A = rw (table_is ok fits marks is) at (strides_tabled (marks_filled marks look_first A))

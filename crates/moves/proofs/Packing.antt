@@ -11,8 +11,9 @@ use Rattle.counting.specs.Gather.{in_file, gathered, tabulated}
 use Rattle.counting.proofs.Counts.{count_in_none}
 use Rattle.counting.proofs.Gathers.{tabulated_part, gathered_none, gathered_skip}
 use Rattle.maps.specs.declared.Selection.{Selection}
+use Rattle.moves.specs.declared.ahead.Stride.{Stride}
 use Rattle.moves.specs.declared.walks.Walk.{Walk}
-use Rattle.moves.specs.Strides.{Strides, onwards}
+use Rattle.moves.specs.Strides.{stride_at, Strides, onwards}
 use Rattle.moves.specs.Walks.{Stands, Begun}
 use Rattle.moves.proofs.Passing.{Passes, gathered_pass}
 use Rattle.moves.proofs.Striding.{step_there, step_left, stepped, pass_fits, pass_stands, step_passes, step_fits}
@@ -81,8 +82,8 @@ module _ {s : Selection} {p : ℕ → Bool} {a n : ℕ} {f : ℕ → ℕ} {packe
 
 -- ---- the bytes are a file buffer's
 module _ {s : Selection} {p : ℕ → Bool} {a n : ℕ} {packed₀ packed : List ℕ} {w : Walk} (file : List ℕ) (P : Packing s p a n (in_file a file) packed₀ packed w)
-    (long : length file ≡ n) {runs hops : List ℕ} (T : Strides s p runs hops) (before : w.at < length file)
-    (run : ℕ) (clipped : run ≡ min (get_or runs w.place 0 + 1) (n - w.at)) where
+    (long : length file ≡ n) {strides : List Stride} (T : Strides s p strides) (before : w.at < length file)
+    (run : ℕ) (clipped : run ≡ min ((stride_at strides w.place).run + 1) (n - w.at)) where
   inside : w.at < n
   inside = omega arith
 
@@ -90,7 +91,7 @@ module _ {s : Selection} {p : ℕ → Bool} {a n : ℕ} {packed₀ packed : List
   pub gather_fits : (w.at + run ≤ length file) × (w.packed + run ≤ length packed)
   gather_fits = let f = step_fits T P.stands inside run clipped in (omega (arith, f.0), omega (arith, f.1, P.room))
 
-  pub gather_next : (packed' : List ℕ) → packed' ≡ paste packed w.packed (drop w.at file) run → (w' : Walk) → w' ≡ onwards s hops w run
+  pub gather_next : (packed' : List ℕ) → packed' ≡ paste packed w.packed (drop w.at file) run → (w' : Walk) → w' ≡ onwards s strides w run
       → Packing s p a n (in_file a file) packed₀ packed' w'
   gather_next =
       packing_copied P (step_passes T P.stands inside run clipped) file w.at gather_fits.0

@@ -6,15 +6,17 @@ use mathlib.Core.Logic.{⊎_elim}
 use Prim.Native.Nat.{ℕ, ◌+◌, ◌-◌, ◌%◌, ◌^◌, ◌≤◌, ◌<◌, min}
 use native.Mathlib.Nat.{mod-lt, mod-add-mod}
 use native.Mathlib.Omega.{arith}
-use lib.ListN.{length, get_or}
+use lib.ListN.{length}
 use Rattle.counting.specs.Count.{count_in}
 use Rattle.counting.proofs.Cases.{lt_or_le}
 use Rattle.counting.proofs.Counts.{count_all, count_in_split, count_in_le}
+use Rattle.families.specs.declared.Family.{Family}
 use Rattle.maps.specs.declared.Selection.{Selection}
-use Rattle.maps.specs.declared.Window.{Window}
-use Rattle.maps.specs.Selected.{belongs, SelectionOk}
+use Rattle.maps.specs.declared.window.Window.{Window}
+use Rattle.maps.specs.Selected.{belongs}
+use Rattle.moves.specs.declared.ahead.Stride.{Stride}
 use Rattle.moves.specs.declared.walks.Walk.{Walk}
-use Rattle.moves.specs.Strides.{Ahead, AheadBy, Strides, OnwardOk, onwards, furthers}
+use Rattle.moves.specs.Strides.{stride_at, Ahead, AheadBy, Strides, OnwardOk, onwards, furthers}
 use Rattle.moves.specs.Walks.{Stands, Carries}
 use Rattle.moves.proofs.Beginnings.{furthers_on, furthers_in}
 use Rattle.moves.proofs.Passing.{Passes, count_pass, pass_front, run_passes}
@@ -69,22 +71,22 @@ module _ {s : Selection} {p : ℕ → Bool} {a n : ℕ} {w : Walk} (W : Stands s
       omega (arith, count_in_split p a w.at j, all, W.left, split, ap (count_in p a) (let e : w.at + (n - w.at) ≡ n = omega arith in e))
 
 -- ---- by the tables
-module _ {s : Selection} {p : ℕ → Bool} {runs hops : List ℕ} {a n : ℕ} {w : Walk}
-    (T : Strides s p runs hops) (W : Stands s p a n w) (inside : w.at < n) where
-  here : AheadBy p (a + w.at) s.period runs hops w.place
+module _ {s : Selection} {p : ℕ → Bool} {strides : List Stride} {a n : ℕ} {w : Walk}
+    (T : Strides s p strides) (W : Stands s p a n w) (inside : w.at < n) where
+  here : AheadBy p (a + w.at) s.period strides w.place
   here = rw W.place (T.each (a + w.at) (omega (arith, W.after)) W.here)
 
   place_inside : w.place < s.period
   place_inside = rw W.place (mod-lt (a + w.at - s.from) T.some)
 
-  step_held : w.place < length runs
-  step_held = omega (arith, place_inside, T.runs_held)
+  step_held : w.place < length strides
+  step_held = omega (arith, place_inside, T.held)
 
-  module _ (run : ℕ) (clipped : run ≡ min (get_or runs w.place 0 + 1) (n - w.at)) where
+  module _ (run : ℕ) (clipped : run ≡ min ((stride_at strides w.place).run + 1) (n - w.at)) where
     abbrev far : ℕ
-    far = get_or hops w.place 0 + 1
+    far = (stride_at strides w.place).hop + 1
 
-    pub step_ahead : Ahead p (a + w.at) (get_or runs w.place 0 + 1) far
+    pub step_ahead : Ahead p (a + w.at) ((stride_at strides w.place).run + 1) far
     step_ahead = here.ahead
 
     pub step_passes : Passes p (a + w.at) (n - w.at) run far
@@ -94,46 +96,46 @@ module _ {s : Selection} {p : ℕ → Bool} {runs hops : List ℕ} {a n : ℕ} {
     pub step_fits : (w.at + run ≤ n) × (w.packed + run ≤ count_in p a n)
     step_fits = (omega arith, pass_fits W step_passes)
 
-    step_asks : n ≤ 2 ^ 40 → OnwardOk s hops w run
+    step_asks : n ≤ 2 ^ 40 → OnwardOk s strides w run
     step_asks near = record {
-      held = omega (arith, place_inside, T.hops_held);
+      held = omega (arith, place_inside, T.held);
       inside = place_inside;
       short = here.short;
       near = omega arith;
       few = omega (arith, step_fits.1, count_in_le p a n);
     }
 
-    pub step_on : (w' : Walk) → w' ≡ onwards s hops w run → Stands s p a n w'
+    pub step_on : (w' : Walk) → w' ≡ onwards s strides w run → Stands s p a n w'
     step_on = pass_stands W step_passes
 
     -- over the first `len` of the run: to a later one of it, or to the next run
-    pub further_passes : (len : ℕ) (w' : Walk) → w' ≡ furthers s hops w run len
+    pub further_passes : (len : ℕ) (w' : Walk) → w' ≡ furthers s strides w run len
         → (to : ℕ) × Passes p (a + w.at) (n - w.at) (min len run) to × (w' ≡ stepped s w to (min len run))
     further_passes len w' e = ⊎_elim
         (λ l.
         let some : min len run ≡ len = omega arith in
-        (len, rw some (pass_front step_passes len l), e ∙ furthers_in s hops w run len l ∙ rw some refl))
+        (len, rw some (pass_front step_passes len l), e ∙ furthers_in s strides w run len l ∙ rw some refl))
         (λ l.
         let all : min len run ≡ run = omega arith in
-        (far, rw all step_passes, e ∙ furthers_on s hops w run len l ∙ rw all refl))
+        (far, rw all step_passes, e ∙ furthers_on s strides w run len l ∙ rw all refl))
         (lt_or_le len run)
 
 -- ---- what the code asks on its way over a window
-module _ {s : Selection} {row : List ℕ} {window : Window} {n k : ℕ} (C : Carries s row window n k) where
-  pub begin_asks : SelectionOk s row × ((s.from ≤ window.start.0) × (window.start.0 < 2 ^ 40))
-  begin_asks = (C.ok, (C.after, omega (arith, C.some, C.near)))
+module _ {s : Selection} {families : List Family} {window : Window} {n k : ℕ} (C : Carries s families window n k) where
+  pub start_near : window.start.0 < 2 ^ 40
+  start_near = omega (arith, C.some, window.ok.near)
 
-  module _ {runs hops : List ℕ} {w : Walk} (T : Strides s (belongs s row) runs hops)
-      (W : Stands s (belongs s row) window.start.0 (window.end.0 - window.start.0) w) (inside : w.at < n) where
+  module _ {strides : List Stride} {w : Walk} (T : Strides s (belongs s families) strides)
+      (W : Stands s (belongs s families) window.start.0 (window.end.0 - window.start.0) w) (inside : w.at < n) where
     before : w.at < window.end.0 - window.start.0
     before = omega (arith, C.buffers.file)
 
-    pub run_asks : (w.place < length runs) × ((window.start.0 ≤ window.end.0) × (w.at ≤ window.end.0 - window.start.0))
-    run_asks = (step_held T W before, (omega (arith, C.some), omega (arith, before)))
+    pub run_held : w.place < length strides
+    run_held = step_held T W before
 
-    module _ (run : ℕ) (clipped : run ≡ min (get_or runs w.place 0 + 1) (window.end.0 - window.start.0 - w.at)) where
-      pub onward_asks : OnwardOk s hops w run
-      onward_asks = step_asks T W before run clipped (omega (arith, C.near))
+    module _ (run : ℕ) (clipped : run ≡ min ((stride_at strides w.place).run + 1) (n - w.at)) where
+      pub clipped_here : run ≡ min ((stride_at strides w.place).run + 1) (window.end.0 - window.start.0 - w.at)
+      clipped_here = rw C.buffers.file at clipped
 
-      pub further_asks : OnwardOk s hops w run × (run ≤ get_or hops w.place 0 + 1)
-      further_asks = (onward_asks, omega (arith, (step_ahead T W before run clipped).within))
+      pub onward_asks : OnwardOk s strides w run
+      onward_asks = step_asks T W before run clipped_here (omega (arith, window.ok.near))

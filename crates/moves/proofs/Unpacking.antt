@@ -13,8 +13,9 @@ use Rattle.counting.specs.Gather.{in_file, scattered_byte, scattered}
 use Rattle.counting.proofs.Cases.{lt_or_le}
 use Rattle.counting.proofs.Gathers.{tabulated_ext, tabulated_whole}
 use Rattle.maps.specs.declared.Selection.{Selection}
+use Rattle.moves.specs.declared.ahead.Stride.{Stride}
 use Rattle.moves.specs.declared.walks.Walk.{Walk}
-use Rattle.moves.specs.Strides.{Strides, onwards}
+use Rattle.moves.specs.Strides.{stride_at, Strides, onwards}
 use Rattle.moves.specs.Walks.{Stands, Begun}
 use Rattle.moves.proofs.Striding.{packed_place, step_ahead, step_passes, step_fits, step_on}
 
@@ -70,8 +71,8 @@ module _ {s : Selection} {p : ℕ → Bool} {a n : ℕ} {packed file₀ file : L
   unpacking_end past = sym (tabulated_whole a n file U.long) ∙ tabulated_ext a n _ _ (λ x h k. U.done x h k (omega (arith, U.long, U.same)))
 
   -- one run more
-  module _ {runs hops : List ℕ} (T : Strides s p runs hops) (before : w.at < length file₀)
-      (run : ℕ) (clipped : run ≡ min (get_or runs w.place 0 + 1) (n - w.at)) where
+  module _ {strides : List Stride} (T : Strides s p strides) (before : w.at < length file₀)
+      (run : ℕ) (clipped : run ≡ min ((stride_at strides w.place).run + 1) (n - w.at)) where
     inside : w.at < n
     inside = omega (arith, U.long, U.same)
 
@@ -100,7 +101,7 @@ module _ {s : Selection} {p : ℕ → Bool} {a n : ℕ} {packed file₀ file : L
       byte_before x h l = rw is (pasted_before file (drop w.packed packed) w.at run unpacking_fits.1 held (x - a) (omega arith))
 
       -- what lies between the run and the next keeps its byte
-      byte_between : (x : ℕ) → x < a + n → a + w.at + run ≤ x → x < a + (w.at + (get_or hops w.place 0 + 1))
+      byte_between : (x : ℕ) → x < a + n → a + w.at + run ≤ x → x < a + (w.at + ((stride_at strides w.place).hop + 1))
           → in_file a file' x ≡ scattered_byte p a packed file₀ x
       byte_between x k h l =
           let A = step_ahead T U.stands inside run clipped in
@@ -108,11 +109,11 @@ module _ {s : Selection} {p : ℕ → Bool} {a n : ℕ} {packed file₀ file : L
           let other : p x ≡ false = ap p (let e : x ≡ a + w.at + j = omega arith in e) ∙ A.none j (omega arith) (omega arith) in
           rw other (byte_past x h)
 
-      pub unpacking_next : (w' : Walk) → w' ≡ onwards s hops w run → Unpacking s p a n packed file₀ file' w'
+      pub unpacking_next : (w' : Walk) → w' ≡ onwards s strides w run → Unpacking s p a n packed file₀ file' w'
       unpacking_next w' e =
           let length' : length file' ≡ length file = ap length is ∙ length-paste file w.at (drop w.packed packed) run unpacking_fits.1 held in
           let stands' = step_on T U.stands inside run clipped w' e in
-          let at' : w'.at ≡ w.at + (get_or hops w.place 0 + 1) = ap (λ (v : Walk). v.at) e in
+          let at' : w'.at ≡ w.at + ((stride_at strides w.place).hop + 1) = ap (λ (v : Walk). v.at) e in
           record {
             stands = stands';
             long = length' ∙ U.long;

@@ -1,3 +1,4 @@
 pub mod Strides
 pub mod Owning
 pub mod Walks
+pub mod Facts

@@ -1,5 +1,6 @@
 -- Who has each place of a period, and looking ahead for every owner at once. Assumes nothing: these are definitions.
 use Rattle.std.specs.Prelude.{◌≡◌, Bool, true, false, List, ℕ, ◌+◌, ◌-◌, ◌≤◌, ◌<◌, eqb, length, get_or}
+use Rattle.moves.specs.declared.ahead.Stride.{Stride}
 use Rattle.moves.specs.Strides.{Filled}
 
 -- place u is owner o's. Element e has the number e + 1
@@ -16,5 +17,5 @@ pub record Nexts (owners : List ℕ) (period : ℕ) (nexts : List ℕ) : Type 0 
   pub none : (o y : ℕ) → o < length nexts → y < get_or nexts o 0 - period → held_by owners o y ≡ false
 
 -- every owner that has that place is looked ahead for
-pub record AllFilled (owners : List ℕ) (period : ℕ) (nexts runs hops : List ℕ) : Type 0 where
-  pub each : (o : ℕ) → held_by owners o (get_or nexts o 0 - period) ≡ true → Filled (held_by owners o) period runs hops
+pub record AllFilled (owners : List ℕ) (period : ℕ) (nexts : List ℕ) (strides : List Stride) : Type 0 where
+  pub each : (o : ℕ) → held_by owners o (get_or nexts o 0 - period) ≡ true → Filled (held_by owners o) period strides

@@ -1,14 +1,15 @@
 -- The piece of a run that one element of a table's layout has, and where it stands in the tray. Assumes nothing.
 use mathlib.Core.Path.{◌≡◌, refl, sym, ap, ap₂, ◌∙◌}
-use mathlib.Core.Bool.{Bool, true, false, ◌||◌}
+use mathlib.Core.Bool.{Bool, true, false, true≢false}
 use mathlib.Core.List.{List}
-use mathlib.Core.Logic.{◌⊎◌, ⊎_elim}
-use Prim.Native.Nat.{ℕ, ◌+◌, ◌-◌, ◌*◌, ◌/◌, ◌^◌, ◌≤◌, ◌<◌, min}
+use mathlib.Core.Logic.{⊎_elim}
+use Rattle.std.specs.Prelude.{Option, None, Some}
+use Rattle.std.specs.Option.{is_some}
+use Prim.Native.Nat.{ℕ, suc, ◌+◌, ◌-◌, ◌*◌, ◌/◌, ◌≤◌, ◌<◌, min}
 use native.Mathlib.Nat.{mod-lt}
 use native.Mathlib.Omega.{arith}
-use lib.Dec.{eqb}
 use lib.ListN.{length, get_or}
-use borrow.Author.Tests.{eq-eqb, ne_eqb}
+use borrow.Author.Tests.{eqb-true, eq-eqb}
 use Rattle.counting.specs.Count.{count_below, count_in}
 use Rattle.counting.specs.Periodic.{owns}
 use Rattle.counting.specs.Elements.{Elements, element, Partition}
@@ -22,9 +23,10 @@ use Rattle.counting.proofs.TrayParts.{place_of}
 use Rattle.parts.specs.declared.pieces.Cycle.{Cycle}
 use Rattle.parts.specs.declared.pieces.Piece.{Piece}
 use Rattle.parts.specs.declared.shares.Share.{Share}
-use Rattle.moves.specs.Strides.{Ahead}
+use Rattle.moves.specs.declared.ahead.Stride.{Stride}
+use Rattle.moves.specs.Strides.{stride_at, Ahead}
 use Rattle.moves.specs.Owning.{held_by}
-use Rattle.parts.specs.Pieces.{share_at, ShareOf, elements_by, Sources, place_in, piece_at, rank_of, source_of, PieceOk, SourceOk, takes}
+use Rattle.parts.specs.Pieces.{share_at, ShareOf, elements_by, Written, place_in, piece_at, rank_of, source_of, SourceOk, takes, taken_from}
 use Rattle.moves.proofs.Looking.{ahead_shifted, from_place}
 use Rattle.parts.proofs.Cycling.{length_tabled, element_tabled, tabled_once}
 
@@ -36,29 +38,19 @@ pub record PieceOf (L : Elements) (x run : ℕ) (piece : Piece) : Type 0 where
   pub all : (y : ℕ) → y < piece.len → element L (piece.owner - 1) (x + y) ≡ true
 
 -- a step over a piece of `len` numbers, and over others that are not taken
-pub record StepOver (L : Elements) (only x len step : ℕ) : Type 0 where
+pub record StepOver (L : Elements) (only : Option ℕ) (x len step : ℕ) : Type 0 where
   pub least : len ≤ step
   pub none : (y : ℕ) → len ≤ y → y < step → takes L only (x + y) ≡ false
 
-pub step_just : (L : Elements) (only x : ℕ) {len step : ℕ} → step ≡ len → StepOver L only x len step
+pub step_just : (L : Elements) (only : Option ℕ) (x : ℕ) {len step : ℕ} → step ≡ len → StepOver L only x len step
 step_just L only x e = record { least = omega arith; none = λ y k l. absurd (omega arith) }
 
--- ---- what the code asks, by the records
--- the tables have the place
-pub place_held : {c : Cycle} {owners keeps : List ℕ} (x : ℕ) → PieceOk c owners keeps x
-    → (place_in c x < length owners) × (place_in c x < length keeps)
-place_held {c} x A =
-    let within = mod-lt (x - c.from) A.some in
-    (omega (arith, A.owners_held), omega (arith, A.keeps_held))
-
--- the numbers from which the place in the tray is made
-pub source_fits : {ranks shares : List ℕ} {p : Piece} → SourceOk ranks shares p → (share : Share) → share ≡ share_at shares (p.owner - 1)
-    → (rank : ℕ) → rank ≡ get_or ranks p.place 0 → let passed = p.whole * share.size + rank in
-    (share.before.0 ≤ passed) × (share.start.0 + passed < 2 ^ 41)
-source_fits A share is rank reads = rw (is, reads) (A.after, A.near)
+-- the element whose number is an owner's
+owner_of : (e owner : ℕ) → taken_from (Some e) owner ≡ true → e ≡ owner - 1
+owner_of e owner its = omega (arith, eqb-true (suc e) owner its)
 
 -- ---- by the sources
-module _ {c : Cycle} {a n : ℕ} {owners keeps skips ranks shares : List ℕ} (S : Sources c a n owners keeps skips ranks shares) where
+module _ {c : Cycle} {a n : ℕ} {owners : List ℕ} {strides : List Stride} {ranks : List ℕ} {shares : List Share} (S : Written c a n owners strides ranks shares) where
   pub sources_once : Partition (elements_by c owners) a n
   sources_once = tabled_once c.elements c.from c.period owners S.owned S.some a n S.after
 
@@ -79,15 +71,6 @@ module _ {c : Cycle} {a n : ℕ} {owners keeps skips ranks shares : List ℕ} (S
     place_inside : place < c.period
     place_inside = mod-lt (x - c.from) S.some
 
-    pub piece_asks : PieceOk c owners keeps x
-    piece_asks = record {
-      some = S.some;
-      owners_held = S.owned.held;
-      keeps_held = S.keeps_held;
-      after = omega (arith, S.after);
-      near = omega (arith, S.near);
-    }
-
     owner_some : 1 ≤ owner
     owner_some = S.owned.some place place_inside
 
@@ -101,7 +84,7 @@ module _ {c : Cycle} {a n : ℕ} {owners keeps skips ranks shares : List ℕ} (S
     owner_element = element_tabled c.elements c.from c.period owners owner owner_some owner_most
 
     -- what lies ahead for the owner
-    owner_ahead : Ahead (element L (owner - 1)) x (get_or keeps place 0 + 1) (get_or skips place 0 + 1)
+    owner_ahead : Ahead (element L (owner - 1)) x ((stride_at strides place).run + 1) ((stride_at strides place).hop + 1)
     owner_ahead = ahead_shifted
         (λ y. ap (λ (p : ℕ → Bool). p (x + y)) owner_element ∙ from_place c.from c.period (held_by owners owner) x (omega (arith, S.after)) y)
         (S.ahead place place_inside).ahead
@@ -119,7 +102,7 @@ module _ {c : Cycle} {a n : ℕ} {owners keeps skips ranks shares : List ℕ} (S
         ∙ period_count c.from c.period (held_by owners owner)
 
     -- ---- the piece there
-    module _ {run : ℕ} (some : 1 ≤ run) {piece : Piece} (is : piece ≡ piece_at c owners keeps x run) where
+    module _ {run : ℕ} (some : 1 ≤ run) {piece : Piece} (is : piece ≡ piece_at c owners strides x run) where
       pub piece_is : PieceOf L x run piece
       piece_is = rw is (record {
         some = omega arith;
@@ -129,7 +112,7 @@ module _ {c : Cycle} {a n : ℕ} {owners keeps skips ranks shares : List ℕ} (S
       })
 
       abbrev passed : ℕ
-      passed = rank_of ranks shares (piece_at c owners keeps x run)
+      passed = rank_of ranks shares (piece_at c owners strides x run)
 
       -- THE RANK: whole periods, and what of the last one lies before the place
       rank_is : passed ≡ count_below (element L (owner - 1)) x
@@ -170,45 +153,39 @@ module _ {c : Cycle} {a n : ℕ} {owners keeps skips ranks shares : List ℕ} (S
         );
       })
 
-      pub beyond_asks : piece.place < length skips
-      beyond_asks = rw is (omega (arith, place_inside, S.skips_held))
-
       -- what `beyond` says: the owner has nothing between the piece and there
-      module _ (far : ℕ) (ends : (piece.len < run → far ≡ get_or skips piece.place 0 + 1) × (run ≤ piece.len → far ≡ run)) where
+      module _ (far : ℕ) (ends : (piece.len < run → far ≡ (stride_at strides piece.place).hop + 1) × (run ≤ piece.len → far ≡ run)) where
         beyond_ahead : (piece.len ≤ far) × ((y : ℕ) → piece.len ≤ y → y < far → element L (piece.owner - 1) (x + y) ≡ false)
         beyond_ahead =
             let ends' = rw is at ends in
             rw is (⊎_elim
             (λ d. (omega (arith, ends'.0 d, owner_ahead.within), λ y k l. owner_ahead.none y (omega arith) (omega (arith, ends'.0 d))))
             (λ d. (omega (arith, ends'.1 d), λ y k l. absurd (omega (arith, ends'.1 d))))
-            (lt_or_le (min run (get_or keeps place 0 + 1)) run))
+            (lt_or_le (min run ((stride_at strides place).run + 1)) run))
 
         pub beyond_least : piece.len ≤ far
         beyond_least = beyond_ahead.0
 
-        pub step_beyond : (only : ℕ) → (only ≡ 0 → ⊥) → (only ≡ 0) ⊎ (only ≡ piece.owner) → StepOver L only x piece.len far
-        step_beyond only some chosen = record {
+        pub step_beyond : (only : Option ℕ) → taken_from only piece.owner ≡ true → is_some only ≡ true → StepOver L only x piece.len far
+        step_beyond None its some = absurd (true≢false (sym some))
+        step_beyond (Some e) its some = record {
           least = beyond_least;
-          none = λ y k l. ⊎_elim (λ e. absurd (some e)) (λ e. rw (ne_eqb only 0 some) (rw e (beyond_ahead.1 y k l))) chosen;
+          none = λ y k l. rw (owner_of e piece.owner its) (beyond_ahead.1 y k l);
         }
 
 -- ---- what of a piece is taken: all of it, or none
-module _ {L : Elements} {x run : ℕ} {piece : Piece} (P : PieceOf L x run piece) (only : ℕ) where
-  pub piece_taken : (only ≡ 0) ⊎ (only ≡ piece.owner) → (y : ℕ) → y < piece.len → takes L only (x + y) ≡ true
-  piece_taken chosen y l = ⊎_elim
-      (λ e. rw (eq-eqb only 0 e) refl)
-      (λ e. rw e (rw (P.all y l) (or-true (eqb piece.owner 0))))
-      chosen
-    where
-      or-true : (b : Bool) → (b || true) ≡ true
-      or-true true = refl
-      or-true false = refl
+module _ {L : Elements} {x run : ℕ} {piece : Piece} (P : PieceOf L x run piece) where
+  pub piece_taken : (only : Option ℕ) → taken_from only piece.owner ≡ true → (y : ℕ) → y < piece.len → takes L only (x + y) ≡ true
+  piece_taken None its y l = refl
+  piece_taken (Some e) its y l = rw (owner_of e piece.owner its) (P.all y l)
 
-  pub piece_left : (a n : ℕ) → Partition L a n → a ≤ x → x + run ≤ a + n → (only ≡ 0 → ⊥) → (only ≡ piece.owner → ⊥)
+  pub piece_left : (only : Option ℕ) → (a n : ℕ) → Partition L a n → a ≤ x → x + run ≤ a + n → taken_from only piece.owner ≡ false
       → (y : ℕ) → y < piece.len → takes L only (x + y) ≡ false
-  piece_left a n once after fits some other y l =
-      rw (ne_eqb only 0 some) (by_test (element L (only - 1) (x + y))
+  piece_left None a n once after fits other y l = absurd (true≢false other)
+  piece_left (Some e) a n once after fits other y l =
+      by_test (element L e (x + y))
       (λ t.
       let one = once (x + y) (omega arith) (omega (arith, P.most)) in
-      absurd (other (omega (arith, first_only L (x + y) (only - 1) one t, first_only L (x + y) (piece.owner - 1) one (P.all y l), P.number))))
-      (λ t. t))
+      let same : suc e ≡ piece.owner = omega (arith, first_only L (x + y) e one t, first_only L (x + y) (piece.owner - 1) one (P.all y l), P.number) in
+      absurd (true≢false (sym (eq-eqb (suc e) piece.owner same) ∙ other)))
+      (λ t. t)

@@ -2,7 +2,9 @@
 use mathlib.Core.Path.{◌≡◌, refl, sym, ap, ◌∙◌}
 use mathlib.Core.Bool.{Bool, true, false, cond}
 use mathlib.Core.List.{List, ◌++◌}
-use mathlib.Core.Logic.{◌⊎◌, ⊎_elim}
+use mathlib.Core.Logic.{⊎_elim}
+use Rattle.std.specs.Prelude.{Option}
+use Rattle.std.specs.Option.{is_some}
 use Prim.Native.Nat.{ℕ, ◌+◌, ◌-◌, ◌≤◌, ◌<◌, min}
 use native.Mathlib.Omega.{arith}
 use lib.ListN.{length, get_or, take, drop, length-drop}
@@ -17,15 +19,17 @@ use Rattle.counting.proofs.TrayParts.{run_within, tray_run}
 use Rattle.maps.specs.declared.Selection.{Selection}
 use Rattle.parts.specs.declared.pieces.Cycle.{Cycle}
 use Rattle.parts.specs.declared.pieces.Piece.{Piece}
+use Rattle.parts.specs.declared.shares.Share.{Share}
+use Rattle.moves.specs.declared.ahead.Stride.{Stride}
 use Rattle.moves.specs.declared.walks.Walk.{Walk}
-use Rattle.moves.specs.Strides.{Strides, furthers}
+use Rattle.moves.specs.Strides.{stride_at, Strides, furthers}
 use Rattle.moves.specs.Walks.{Stands, Begun}
-use Rattle.parts.specs.Pieces.{elements_by, Sources, piece_at, source_of, SourceOk, takes, renewed}
+use Rattle.parts.specs.Pieces.{elements_by, Written, piece_at, source_of, SourceOk, takes, taken_from, renewed}
 use Rattle.moves.proofs.Passing.{Passes, pass_front, pass_others}
 use Rattle.moves.proofs.Striding.{step_there, step_left, stepped, stepped_twice, packed_place, step_passes, further_passes}
 use Rattle.moves.proofs.Packing.{Packing, packing_start, packing_end, packing_room, packing_on, packing_copied}
 use Rattle.parts.proofs.Piecing.{PieceOf, StepOver, sources_once, piece_is, piece_taken, piece_left}
-use Rattle.parts.proofs.Piecing.{source_asks, source_is, beyond_asks, beyond_least, step_beyond}
+use Rattle.parts.proofs.Piecing.{source_asks, source_is, beyond_least, step_beyond}
 
 -- the byte of x in the renewed part
 abbrev pub new_byte : (q : ℕ → Bool) → (a : ℕ) → (taken : ℕ → Bool) → (f : ℕ → ℕ) → (old : List ℕ) → ℕ → ℕ
@@ -109,8 +113,8 @@ module _ {s : Selection} {q : ℕ → Bool} {a n : ℕ} {taken : ℕ → Bool} {
           renewing_copied R (rw same at S) w' (rw same at e) all l i held bytes part' is
 
 -- ---- a piece of a run, which one element of L has
-module _ {s : Selection} {q : ℕ → Bool} {a n : ℕ} {w : Walk} {L : Elements} {runs hops : List ℕ} (T : Strides s q runs hops) (W : Stands s q a n w)
-    (inside : w.at < n) (run : ℕ) (clipped : run ≡ min (get_or runs w.place 0 + 1) (n - w.at))
+module _ {s : Selection} {q : ℕ → Bool} {a n : ℕ} {w : Walk} {L : Elements} {strides : List Stride} (T : Strides s q strides) (W : Stands s q a n w)
+    (inside : w.at < n) (run : ℕ) (clipped : run ≡ min ((stride_at strides w.place).run + 1) (n - w.at))
     (piece : Piece) (P : PieceOf L (a + w.at) run piece) where
   has : (z : ℕ) → a + w.at ≤ z → z < a + w.at + piece.len → element L (piece.owner - 1) z ≡ true
   has z u v = ap (element L (piece.owner - 1)) (let d : z ≡ a + w.at + (z - (a + w.at)) = omega arith in d) ∙ P.all (z - (a + w.at)) (omega arith)
@@ -129,19 +133,19 @@ module _ {s : Selection} {q : ℕ → Bool} {a n : ℕ} {w : Walk} {L : Elements
         ∙ ap (λ (i : ℕ). take piece.len (drop i tray)) (sym there)
 
 -- ---- where the loop has found a piece, by what is written down of the first layout
-pub record AtPiece (s : Selection) (q : ℕ → Bool) (runs hops : List ℕ) (a n : ℕ) (c : Cycle) (owners keeps skips ranks shares : List ℕ) (only : ℕ)
-    (tray old part : List ℕ) (w : Walk) (run : ℕ) (piece : Piece) : Type 0 where
-  pub strides : Strides s q runs hops
-  pub sources : Sources c a n owners keeps skips ranks shares
+pub record AtPiece (s : Selection) (q : ℕ → Bool) (strides : List Stride) (a n : ℕ) (c : Cycle) (owners : List ℕ)
+    (steps : List Stride) (ranks : List ℕ) (shares : List Share) (only : Option ℕ) (tray old part : List ℕ) (w : Walk) (run : ℕ) (piece : Piece) : Type 0 where
+  pub ahead : Strides s q strides
+  pub sources : Written c a n owners steps ranks shares
   pub long : length tray ≡ n
   pub renewing : Renewing s q a n (takes (elements_by c owners) only) (in_tray (elements_by c owners) a n tray) old part w
   pub inside : w.at < n
-  pub clipped : run ≡ min (get_or runs w.place 0 + 1) (n - w.at)
-  pub is : piece ≡ piece_at c owners keeps (a + w.at) run
+  pub clipped : run ≡ min ((stride_at strides w.place).run + 1) (n - w.at)
+  pub is : piece ≡ piece_at c owners steps (a + w.at) run
 
-module _ {s : Selection} {q : ℕ → Bool} {runs hops : List ℕ} {a n : ℕ} {c : Cycle} {owners keeps skips ranks shares : List ℕ} {only : ℕ}
-    {tray old part : List ℕ} {w : Walk} {run : ℕ} {piece : Piece}
-    (A : AtPiece s q runs hops a n c owners keeps skips ranks shares only tray old part w run piece) where
+module _ {s : Selection} {q : ℕ → Bool} {strides : List Stride} {a n : ℕ} {c : Cycle} {owners : List ℕ} {steps : List Stride} {ranks : List ℕ}
+    {shares : List Share} {only : Option ℕ} {tray old part : List ℕ} {w : Walk} {run : ℕ} {piece : Piece}
+    (A : AtPiece s q strides a n c owners steps ranks shares only tray old part w run piece) where
   abbrev L : Elements
   L = elements_by c owners
 
@@ -157,7 +161,10 @@ module _ {s : Selection} {q : ℕ → Bool} {runs hops : List ℕ} {a n : ℕ} {
   P : PieceOf L x run piece
   P = piece_is A.sources A.inside some A.is
 
-  -- what `source_of`, `copy_run` and `beyond` ask
+  -- what `takes`, `source_of` and `copy_run` ask
+  pub owner_asked : 1 ≤ piece.owner
+  owner_asked = P.number
+
   pub source_asked : SourceOk ranks shares piece
   source_asked = source_asks A.sources A.inside some A.is
 
@@ -167,25 +174,22 @@ module _ {s : Selection} {q : ℕ → Bool} {runs hops : List ℕ} {a n : ℕ} {
 
     pub copy_asked : (source + piece.len ≤ length tray) × (w.packed + piece.len ≤ length part)
     copy_asked = (
-      piece_held A.strides W A.inside run A.clipped piece P (sources_once A.sources) tray A.long source there,
-      omega (arith, packing_room A.renewing.packing (step_passes A.strides W A.inside run A.clipped), P.most),
+      piece_held A.ahead W A.inside run A.clipped piece P (sources_once A.sources) tray A.long source there,
+      omega (arith, packing_room A.renewing.packing (step_passes A.ahead W A.inside run A.clipped), P.most),
     )
 
-  pub beyond_asked : piece.place < length skips
-  beyond_asked = beyond_asks A.sources A.inside some A.is
-
   -- what `beyond` gives
-  module _ (far : ℕ) (ends : (piece.len < run → far ≡ get_or skips piece.place 0 + 1) × (run ≤ piece.len → far ≡ run)) where
+  module _ (far : ℕ) (ends : (piece.len < run → far ≡ (stride_at steps piece.place).hop + 1) × (run ≤ piece.len → far ≡ run)) where
     pub far_least : piece.len ≤ far
     far_least = beyond_least A.sources A.inside some A.is far ends
 
-    pub far_over : (only ≡ 0 → ⊥) → (only ≡ 0) ⊎ (only ≡ piece.owner) → StepOver L only x piece.len far
+    pub far_over : taken_from only piece.owner ≡ true → is_some only ≡ true → StepOver L only x piece.len far
     far_over = step_beyond A.sources A.inside some A.is far ends only
 
   -- ---- and how the walk goes on
-  module _ (step : ℕ) {w' : Walk} (e : w' ≡ furthers s hops w run step) where
+  module _ (step : ℕ) {w' : Walk} (e : w' ≡ furthers s strides w run step) where
     abbrev passes : (to : ℕ) × Passes q x (n - w.at) (min step run) to × (w' ≡ stepped s w to (min step run))
-    passes = further_passes A.strides W A.inside run A.clipped step w' e
+    passes = further_passes A.ahead W A.inside run A.clipped step w' e
 
     pub piece_forward : piece.len ≤ step → w.at < w'.at
     piece_forward least = omega (arith, passes.1.ahead, ap (λ (v : Walk). v.at) passes.2, P.some, P.most)
@@ -193,21 +197,21 @@ module _ {s : Selection} {q : ℕ → Bool} {runs hops : List ℕ} {a n : ℕ} {
     -- what it steps over after the piece is not taken
     module _ (over : StepOver L only x piece.len step) where
       -- the piece is copied where it is taken
-      pub piece_copied : (only ≡ 0) ⊎ (only ≡ piece.owner) → (source : ℕ) → source ≡ source_of ranks shares piece
+      pub piece_copied : taken_from only piece.owner ≡ true → (source : ℕ) → source ≡ source_of ranks shares piece
           → (part' : List ℕ) → part' ≡ paste part w.packed (drop source tray) piece.len
           → Renewing s q a n (takes L only) (in_tray L a n tray) old part' w'
       piece_copied chosen source from = renewing_front A.renewing passes.1 w' passes.2 (omega (arith, A.clipped, A.inside))
           piece.len (omega (arith, P.most, over.least))
           (piece_taken P only chosen) (λ y k l. over.none y k (omega arith)) tray source (copy_asked source from).0
-          (piece_bytes A.strides W A.inside run A.clipped piece P (sources_once A.sources) tray A.long source (there source from))
+          (piece_bytes A.ahead W A.inside run A.clipped piece P (sources_once A.sources) tray A.long source (there source from))
 
       -- .. and else the part stays
-      pub piece_passed : (only ≡ 0 → ⊥) → (only ≡ piece.owner → ⊥) → (part' : List ℕ) → part' ≡ part
+      pub piece_passed : taken_from only piece.owner ≡ false → (part' : List ℕ) → part' ≡ part
           → Renewing s q a n (takes L only) (in_tray L a n tray) old part' w'
-      piece_passed more other part' same =
+      piece_passed other part' same =
           rw same (renewing_left A.renewing passes.1 w' passes.2
           (λ y l. ⊎_elim
-          (λ h. piece_left P only a n (sources_once A.sources) (omega arith) (omega (arith, A.clipped, A.inside)) more other y h)
+          (λ h. piece_left P only a n (sources_once A.sources) (omega arith) (omega (arith, A.clipped, A.inside)) other y h)
           (λ h. over.none y h (omega arith))
           (lt_or_le y piece.len))
           (omega (arith, A.inside)))

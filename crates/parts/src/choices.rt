@@ -1,12 +1,11 @@
 // Choices: what is moved, all or what one pair of elements shares.
-ghost use Rattle.std.specs.Prelude.{◌≡◌, ◌<◌};
-ghost use Rattle.parts.specs.Pieces.{every_pair, one_pair};
+ghost use Rattle.std.specs.Prelude.{◌≡◌, ◌≤◌, ◌<◌};
+ghost use Rattle.parts.specs.Pieces.{every_pair, one_pair, taken_from};
 
-// What is moved: to the elements from `first` up to but not including `last` of the second layout, what the owner `only` of the first has; all, where
-// that is 0.
-#[derive(Clone, Copy)]
+// What is moved: to the elements from `first` up to but not including `last` of the second layout, what element `only` of the first has, or all.
+#[derive(Clone, Copy, Debug, PartialEq, Eq)]
 pub struct Chosen {
-    pub only: usize,
+    pub only: Option<usize>,
     pub first: usize,
     pub last: usize,
 }
@@ -16,7 +15,7 @@ pub fn every_pair(elements: usize) -> Chosen
     ensures { result ≡ every_pair elements }
 {
     Chosen {
-        only: 0,
+        only: None,
         first: 0,
         last: elements,
     }
@@ -27,8 +26,20 @@ pub fn one_pair(i: usize, j: usize) -> Chosen
     requires { (i < 16) × (j < 16) }
     ensures { result ≡ one_pair i j }
 {
-    let only = i + 1;
-    let first = j;
-    let last = j + 1;
-    Chosen { only, first, last }
+    Chosen {
+        only: Some(i),
+        first: j,
+        last: j + 1,
+    }
+}
+
+// Whether what an owner has is moved: element e has the number e + 1.
+pub fn takes(only: Option<usize>, owner: usize) -> bool
+    requires { 1 ≤ owner }
+    ensures { result ≡ taken_from only owner }
+{
+    match only {
+        None => true,
+        Some(element) => element == owner - 1,
+    }
 }

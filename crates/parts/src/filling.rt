@@ -2,51 +2,44 @@
 ghost use Rattle.std.specs.Prelude.{◌≡◌, length};
 ghost use Rattle.counting.specs.Trays.{in_tray};
 ghost use Rattle.maps.specs.Selected.{belongs};
-ghost use Rattle.moves.specs.Strides.{Strides};
 ghost use Rattle.moves.specs.Walks.{Carries};
-ghost use Rattle.parts.specs.Pieces.{bytes_of, elements_by, Sources, takes, renewed};
+ghost use Rattle.parts.specs.Pieces.{bytes_of, elements_by, SourcesOk, takes, renewed};
 
-use crate::pieces;
-use crate::pieces::Cycle;
-use maps::{Selection, Window};
+use crate::choices;
+use crate::pieces::Sources;
+use families::FileOffset;
+use maps::Window;
+use moves::Track;
 
-// Fills a selection's part of the second tray from the first tray with what `only` has. After a piece of `only` nothing is taken before its next run.
+// Fills a subfile's part of the second tray from the first tray, with what `only` has. After a piece of `only` nothing is taken before its next run.
 pub fn fill_part(
-    numbers: &[u32],
-    s: Selection,
+    track: &Track,
     window: Window,
-    runs: &[u16],
-    hops: &[u16],
-    cycle: Cycle,
-    owners: &[u8],
-    keeps: &[u16],
-    skips: &[u16],
-    ranks: &[u16],
-    shares: &[u64],
-    only: usize,
+    sources: &Sources,
+    only: Option<usize>,
     tray: &[u8],
     part: &mut [u8],
 )
-    requires fact_1 { Carries s numbers.now window (length tray.now) (length part.old) }
-    requires fact_2 { Strides s (belongs s numbers.now) runs.now hops.now }
-    requires fact_3 { Sources cycle window.start.0 (bytes_of window) owners.now keeps.now skips.now ranks.now shares.now }
-    ensures { let L = elements_by cycle owners.now in let a = window.start.0 in let n = bytes_of window in
-        part.new ≡ renewed (belongs s numbers.now) a n (takes L only) (in_tray L a n tray.now) part.old }
+    requires carries { Carries track.now.subfile.selection track.now.subfile.families.now window (length tray.now) (length part.old) }
+    requires sources { SourcesOk sources.now window.start.0 (bytes_of window) }
+    ensures { let L = elements_by sources.now.cycle sources.now.owners.now in let a = window.start.0 in let n = bytes_of window in
+        part.new ≡ renewed (belongs track.now.subfile.selection track.now.subfile.families.now) a n (takes L only) (in_tray L a n tray.now) part.old }
 {
-    let n = tray.len();
-    let mut walk = moves::begin(numbers, s, window.start);
-    while walk.at < n {
-        let run = moves::run_here(runs, walk, window);
-        let piece = pieces::piece_at(cycle, owners, keeps, window, walk.at, run);
-        let owner = piece.owner;
+    let bytes = tray.len();
+    let mut walk = moves::begin(&track.subfile, window.start);
+    // a piece says how far the next one is, so that this goes by no range
+    while walk.at < bytes {
+        let run = moves::run_here(track.strides, walk, bytes);
+        let piece = sources.piece_at(FileOffset(window.start.0 + walk.at as u64), run);
+        let taken = choices::takes(only, piece.owner);
         let mut step = piece.len;
-        if only == 0 || only == owner {
-            let source = pieces::source_of(ranks, shares, piece);
+        if taken {
+            let source = sources.source_of(piece);
             copies::copy_run(tray, source.0 as usize, part, walk.packed, piece.len);
-            if only != 0 {
-                step = pieces::beyond(skips, piece, run);
+            if only.is_some() {
+                step = sources.beyond(piece, run);
             }
         }
-        walk = moves::further(hops, s, walk, run, step);
+        walk = moves::further(track.strides, track.subfile.selection, walk, run, step);
     }
 }

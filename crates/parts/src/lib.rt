@@ -12,5 +12,5 @@ mod shares;
 
 pub use choices::{Chosen, every_pair, one_pair};
 pub use filling::fill_part;
-pub use pieces::Cycle;
-pub use shares::{Share, share_at};
+pub use pieces::{Cycle, Sources};
+pub use shares::{NO_SHARE, Share};

@@ -3,12 +3,13 @@ use mathlib.Core.Path.{◌≡◌, refl, sym, ap, ◌∙◌}
 use mathlib.Core.Bool.{Bool, true, false, ◌&&◌, ◌||◌, cond, true≢false}
 use mathlib.Core.List.{List, ◌++◌}
 use mathlib.Core.Logic.{⊎_elim}
-use Prim.Native.Nat.{ℕ, suc, ◌+◌, ◌-◌, ◌≤◌, ◌<◌}
+use Rattle.std.specs.Prelude.{Option, None, Some}
+use Prim.Native.Nat.{ℕ, suc, ◌+◌, ◌≤◌, ◌<◌}
 use native.Mathlib.Numerals.{add-one}
 use native.Mathlib.Omega.{arith}
 use lib.Dec.{leb, ltb}
 use lib.ListN.{length, take, drop}
-use borrow.Author.Tests.{le-leb, lt-ltb, le-ltb, leb-true, ne_eqb}
+use borrow.Author.Tests.{le-leb, lt-ltb, le-ltb, leb-true}
 use Rattle.counting.specs.Count.{count_in}
 use Rattle.counting.specs.Gather.{gathered}
 use Rattle.counting.specs.Elements.{Elements, element, times, first_of, Partition}
@@ -68,7 +69,7 @@ module _ (L M : Elements) (a n : ℕ) (once : Partition M a n) (t u : List ℕ) 
   length_where c = tray_length M a n once _
 
   -- no element is chosen
-  pub where_none : length u ≡ n → (only k : ℕ) → moved_where L M a n t (record { only = only; first = k; last = k }) u ≡ u
+  pub where_none : length u ≡ n → (only : Option ℕ) (k : ℕ) → moved_where L M a n t (record { only = only; first = k; last = k }) u ≡ u
   unfolding moved_where
   where_none long only k =
       tray_ext M a n _ (in_tray M a n u) (λ x _ _ _. rw (within_none M k x) (neither (takes L only x) _ _)) ∙ tray_of M a n once u long
@@ -78,7 +79,7 @@ module _ (L M : Elements) (a n : ℕ) (once : Partition M a n) (t u : List ℕ) 
       neither false v w = refl
 
   -- ONE PART MORE: element j's is lent, and comes back renewed
-  pub where_more : (only first j : ℕ) → first ≤ j → j < length M
+  pub where_more : (only : Option ℕ) (first j : ℕ) → first ≤ j → j < length M
       → let v = moved_where L M a n t (record { only = only; first = first; last = j }) u in let at = counts (take j M) a n in
       let q = element M j in let k = count_in q a n in
       take at v ++ (renewed q a n (takes L only) (in_tray L a n t) (take k (drop at v)) ++ drop k (drop at v))
@@ -98,16 +99,14 @@ module _ (L M : Elements) (a n : ℕ) (once : Partition M a n) (t u : List ℕ) 
       ∙ tray_ext M a n _ _ (λ x b e _. rw (within_more M x (once x b e) first j l) (nested (takes L only x) (q x) (within M first j x) _ _))
 
   -- ALL is the move
-  pub where_all : moved_where L M a n t (record { only = 0; first = 0; last = length M }) u ≡ moved L M a n t
+  pub where_all : moved_where L M a n t (record { only = None; first = 0; last = length M }) u ≡ moved L M a n t
   unfolding moved_where moved
   where_all = tray_ext M a n _ _ (λ x b e _. rw (within_all M x (once x b e)) refl)
 
-  -- ONE OWNER AND ONE ELEMENT are the pair move
-  pub where_pair : (i j : ℕ) → moved_where L M a n t (record { only = i + 1; first = j; last = j + 1 }) u ≡ pair_moved L M a n t i j u
+  -- ONE ELEMENT OF EACH is the pair move
+  pub where_pair : (i j : ℕ) → moved_where L M a n t (record { only = Some i; first = j; last = j + 1 }) u ≡ pair_moved L M a n t i j u
   unfolding moved_where pair_moved
   where_pair i j =
-      let back : i + 1 - 1 ≡ i = omega arith in
-      let owner : (x : ℕ) → takes L (i + 1) x ≡ element L i x = λ x. rw (ne_eqb (i + 1) 0 (λ z. omega arith), back) refl in
       let one : (x : ℕ) → times M x ≡ 1 → within M j (j + 1) x ≡ element M j x =
       λ x o. ap (λ (k : ℕ). within M j k x) (add-one j) ∙ within_more M x o j j (omega arith) ∙ rw (within_none M j x) (or-false (element M j x)) in
-      tray_ext M a n _ _ (λ x b e _. rw (owner x, one x (once x b e)) refl)
+      tray_ext M a n _ _ (λ x b e _. rw (one x (once x b e)) refl)

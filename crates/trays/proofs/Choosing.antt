@@ -3,15 +3,11 @@ use mathlib.Core.Path.{◌≡◌}
 use mathlib.Core.List.{List}
 use Prim.Native.Nat.{ℕ, ◌<◌}
 use Rattle.families.specs.declared.Layout.{Layout}
-use Rattle.families.specs.Decoded.{row_of, LayoutOk}
+use Rattle.families.specs.Decoded.{row_of}
 use Rattle.maps.specs.declared.Selection.{Selection}
 use Rattle.maps.specs.Selected.{SelectionOk, selection_of, PatternOk}
 use Rattle.maps.proofs.Chosen.{selection_ok}
 
 module _ {t : Layout} {size : ℕ} (P : PatternOk t size) {row : List ℕ} (laid : row ≡ row_of t.family) {e : ℕ} (h : e < t.elements) where
-  -- what `selection_of` asks
-  pub chosen_asks : (row ≡ row_of t.family) × (LayoutOk 4 65535 t × (e < t.elements))
-  chosen_asks = (laid, (P.ok, h))
-
   pub chosen_ok : {s : Selection} → s ≡ selection_of t size e → SelectionOk s row
   chosen_ok is = rw (is, laid) (selection_ok t size P e h)

@@ -1,12 +1,12 @@
 -- The loop of `put_nexts`: the first places of the elements so far are written down. Assumes nothing.
-use mathlib.Core.Path.{◌≡◌, refl, sym, ap, ◌∙◌}
+use mathlib.Core.Path.{◌≡◌, sym, ap, ◌∙◌}
 use mathlib.Core.List.{List}
 use mathlib.Core.Logic.{⊎_elim}
 use Prim.Native.Nat.{ℕ, suc, ◌+◌, ◌-◌, ◌^◌, ◌≤◌, ◌<◌}
 use native.Mathlib.Nat.{add-sub_cancel_left}
 use native.Mathlib.Numerals.{add-one}
 use native.Mathlib.Omega.{arith}
-use lib.ListN.{length, get_or, set, replicate, length-set, length-replicate, get_or-replicate}
+use lib.ListN.{length, get_or, set, length-set}
 use lib.Seq.{get_or-set_same, get_or-set_other}
 use Rattle.counting.specs.Periodic.{owns}
 use Rattle.counting.proofs.Cases.{same_or_not}
@@ -17,7 +17,6 @@ use Rattle.maps.specs.declared.Selection.{Selection}
 use Rattle.maps.specs.Selected.{belongs, Byte, selection_of, PatternOk}
 use Rattle.maps.proofs.Chosen.{belongs_tree}
 use Rattle.moves.specs.Strides.{First}
-use Rattle.trays.specs.Tables.{NextsOf}
 use Rattle.moves.proofs.Looking.{byte_from, byte_first}
 
 pub record Firsts (t : Layout) (size : ℕ) (nexts₀ nexts : List ℕ) (e : ℕ) : Type 0 where
@@ -28,29 +27,6 @@ pub record Firsts (t : Layout) (size : ℕ) (nexts₀ nexts : List ℕ) (e : ℕ
   pub unused : (o : ℕ) → e < o → o < 17 → get_or nexts o 0 ≡ size
   pub past : (i : ℕ) → i < e → size ≤ get_or nexts (suc i) 0
   pub first : (i : ℕ) → i < e → First (has (tree_of 4 t i)) size (get_or nexts (suc i) 0 - size)
-
-pub firsts_start : (t : Layout) (size : ℕ) (nexts : List ℕ) → nexts ≡ replicate 17 size → Firsts t size nexts nexts 0
-firsts_start t size nexts is =
-    let at : (o : ℕ) → o < 17 → get_or nexts o 0 ≡ size =
-    λ o l. ap (λ (r : List ℕ). get_or r o 0) is ∙ get_or-replicate {A = ℕ} 17 o size 0 l in
-    record {
-      upto = omega arith;
-      same = refl;
-      long = ap length is ∙ length-replicate {A = ℕ} 17 size;
-      nobody = at 0 (omega arith);
-      unused = λ o _ l. at o l;
-      past = λ i l. absurd (omega arith);
-      first = λ i l. absurd (omega arith);
-    }
-
-pub firsts_end : {t : Layout} {size : ℕ} {nexts₀ nexts : List ℕ} {e : ℕ} → Firsts t size nexts₀ nexts e → t.elements ≤ e → NextsOf t size nexts
-firsts_end F all = record {
-  long = F.long;
-  nobody = F.nobody;
-  unused = λ o h l. F.unused o (omega (arith, F.upto)) l;
-  past = λ i l. F.past i (omega arith);
-  first = λ i l. F.first i (omega arith);
-}
 
 -- ---- x is the first byte of element e: it stands at the element's first place of the pattern
 pub record FirstAt (t : Layout) (size e x : ℕ) : Type 0 where

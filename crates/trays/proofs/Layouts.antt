@@ -19,6 +19,7 @@ use Rattle.families.specs.Decoded.{tree_of, selections, row_of}
 use Rattle.maps.specs.declared.Selection.{Selection}
 use Rattle.maps.specs.Selected.{families_of, belongs, selection_of, elements_of, PatternOk}
 use Rattle.maps.proofs.Chosen.{belongs_tree}
+use Rattle.moves.specs.declared.ahead.Stride.{Stride}
 use Rattle.moves.specs.Strides.{AheadBy, around, Strides}
 use Rattle.moves.specs.Owning.{held_by}
 use Rattle.parts.specs.Tabled.{tabled}
@@ -62,28 +63,27 @@ module _ (t : Layout) (size : ℕ) where
         ∙ rw (selection_from, period) refl
 
   -- ---- tables of it
-  module _ {owners runs hops : List ℕ} (T : Tables t size owners runs hops) where
+  module _ {owners : List ℕ} {strides : List Stride} (T : Tables t size owners strides) where
     element_held : (e : ℕ) → e < t.elements → element (elements_of t size) e ≡ owns t.displacement size (held_by owners (suc e))
     unfolding tabled
     element_held e h = ap (λ (K : Elements). element K e) (sym T.is) ∙ element_tabulated _ t.elements e h
 
     -- a walk over an element can use them
     pub tables_strides : PatternOk t size → (row : List ℕ) → row ≡ row_of t.family → (e : ℕ) → e < t.elements
-        → Strides (selection_of t size e) (belongs (selection_of t size e) row) runs hops
+        → Strides (selection_of t size e) (belongs (selection_of t size e) row) strides
     unfolding selection_of
     tables_strides P row laid e h =
         let F = T.each e h in
         rw (selection_belongs row laid e h (selection_of t size e) refl ∙ element_held e h) (record {
           some = P.least;
-          runs_held = F.runs_held;
-          hops_held = F.hops_held;
+          held = F.held;
           each = λ x after m. ahead_by_place t.displacement size (held_by owners (suc e)) x after P.least F m;
         })
 
     -- every place is looked ahead from for its owner
-    pub tables_ahead : (u : ℕ) → u < size → AheadBy (around (held_by owners (get_or owners u 0)) size) u size runs hops u
+    pub tables_ahead : (u : ℕ) → u < size → AheadBy (around (held_by owners (get_or owners u 0)) size) u size strides u
     tables_ahead u h =
         let o = get_or owners u 0 in
         let is : suc (o - 1) ≡ o = omega (arith, T.owned.some u h) in
         let F = T.each (o - 1) (omega (arith, T.owned.some u h, T.owned.most u h)) in
-        subst (λ (i : ℕ). AheadBy (around (held_by owners i) size) u size runs hops u) is (F.each u h (eq-eqb o (suc (o - 1)) (sym is)))
+        subst (λ (i : ℕ). AheadBy (around (held_by owners i) size) u size strides u) is (F.each u h (eq-eqb o (suc (o - 1)) (sym is)))

@@ -1,85 +1,60 @@
 -- What `moving` asks of what it calls, and what it makes of the answers. Assumes nothing.
-use mathlib.Core.Path.{◌≡◌, refl, sym, ap, ◌∙◌}
+use mathlib.Core.Path.{◌≡◌, sym, ap, ◌∙◌, refl}
 use mathlib.Core.List.{List}
-use Prim.Native.Nat.{ℕ, ◌^◌, ◌≤◌, ◌<◌}
+use Prim.Native.Nat.{ℕ, ◌≤◌, ◌<◌}
 use native.Mathlib.Omega.{arith}
-use lib.ListN.{length, replicate, length-replicate}
+use lib.ListN.{length}
 use lib.Seq.{take_all}
 use Rattle.counting.specs.Elements.{Elements, Partition}
 use Rattle.counting.specs.Trays.{moved, pair_moved}
 use Rattle.families.specs.declared.Layout.{Layout}
 use Rattle.families.specs.Decoded.{row_of}
-use Rattle.maps.specs.declared.Window.{Window}
-use Rattle.maps.specs.Selected.{elements_of, PatternOk}
+use Rattle.maps.specs.declared.window.Window.{Window}
+use Rattle.maps.specs.Selected.{elements_of}
+use Rattle.moves.specs.declared.ahead.Stride.{Stride}
 use Rattle.moves.specs.Strides.{Filled}
 use Rattle.moves.specs.Owning.{held_by}
 use Rattle.parts.specs.declared.choices.Chosen.{Chosen}
+use Rattle.parts.specs.declared.shares.Share.{Share}
 use Rattle.parts.specs.Tabled.{Ranked}
-use Rattle.parts.specs.Pieces.{bytes_of, SharesOf, Sources, every_pair, one_pair}
-use Rattle.trays.specs.Tables.{FitsAll, RoomFor, Tables, CountedOk}
-use Rattle.trays.specs.Parts.{cycle_of, Targets, moved_where, ChosenOk, Lengths, TraysOk, Starts, Laid, Rooms}
+use Rattle.parts.specs.Pieces.{bytes_of, SharesOf, Written, every_pair, one_pair}
+use Rattle.trays.specs.Tables.{Tables}
+use Rattle.trays.specs.Parts.{cycle_of, Prepared, moved_where, ChosenOk, Starts}
 use Rattle.trays.proofs.Layouts.{elements_length, elements_share, tables_strides, tables_ahead}
 use Rattle.trays.proofs.Choices.{length_where, where_all, where_pair}
 
 -- ---- what is written down of a layout
-module _ {t : Layout} {size : ℕ} {w : Window} (S : Starts t size w) {owners runs hops : List ℕ} (T : Tables t size owners runs hops) where
+module _ {t : Layout} {size : ℕ} {w : Window} (S : Starts t size w) {owners : List ℕ} {strides : List Stride} (T : Tables t size owners strides) where
   -- every place has an owner, so some table is filled
-  filled : Filled (held_by owners 1) size runs hops
+  filled : Filled (held_by owners 1) size strides
   filled =
       let first = S.pattern.least in
       T.each 0 (omega (arith, T.owned.some 0 first, T.owned.most 0 first))
 
-  pub sources_noted : {ranks shares : List ℕ} → Ranked owners size ranks
+  pub sources_noted : {ranks : List ℕ} {shares : List Share} → Ranked owners size ranks
       → SharesOf (elements_of t size) t.displacement size w.start.0 (bytes_of w) shares
-      → Sources (cycle_of t size) w.start.0 (bytes_of w) owners runs hops ranks shares
+      → Written (cycle_of t size) w.start.0 (bytes_of w) owners strides ranks shares
   sources_noted R H = record {
     owned = T.owned;
     some = S.pattern.least;
     short = omega (arith, S.pattern.most);
     after = S.after;
-    near = omega (arith, S.window.ordered, S.window.near);
-    keeps_held = filled.runs_held;
-    skips_held = filled.hops_held;
+    near = omega (arith, w.ok.ordered, w.ok.near);
+    held = filled.held;
     ahead = tables_ahead t size T;
     ranked = R;
     shared = rw T.is H;
   }
 
-  pub targets_noted : {row shares : List ℕ} → row ≡ row_of t.family
-      → SharesOf (elements_of t size) t.displacement size w.start.0 (bytes_of w) shares → Targets t size w row runs hops shares
+  pub targets_noted : {row : List ℕ} {shares : List Share} → row ≡ row_of t.family
+      → SharesOf (elements_of t size) t.displacement size w.start.0 (bytes_of w) shares → Prepared t size w row strides shares
   targets_noted {row} laid H = record {
     pattern = S.pattern;
     laid = laid;
     after = S.after;
-    window = S.window;
-    strides = tables_strides t size T S.pattern row laid;
+    ahead = tables_strides t size T S.pattern (row_of t.family) refl;
     shared = H;
   }
-
-  -- what `fill_ranks` asks
-  pub counted_ask : {ranks : List ℕ} → size ≤ length ranks → CountedOk owners size (replicate 17 0) ranks
-  counted_ask room = record {
-    held = T.owned.held;
-    room = room;
-    short = omega (arith, S.pattern.most);
-    zeros = refl;
-    there = λ u h. omega (arith, T.owned.most u h, S.pattern.ok.room);
-  }
-
--- ---- room for tables
-pub fits_always : {t : Layout} {size : ℕ} → PatternOk t size → FitsAll t size 65536
-fits_always P = record { ruled = P.ok; held = P.most }
-
-room_for : {t : Layout} {size n : ℕ} → 1 ≤ n → n ≤ 2 ^ 16 → FitsAll t size n → let zeros = replicate {A = ℕ} n 0 in RoomFor t size zeros zeros zeros
-room_for {n = n} some small F =
-    let long : length (replicate {A = ℕ} n 0) ≡ n = length-replicate {A = ℕ} n 0 in
-    record {
-      zeros = rw long refl;
-      some = omega (arith, long);
-      ruled = rw long F.ruled;
-      held = omega (arith, long, F.held);
-      room = record { runs_held = omega (arith, long, F.held); hops_held = omega (arith, long, F.held); short = omega (arith, F.held) };
-    }
 
 -- ---- two layouts
 module _ {t1 t2 : Layout} {size1 size2 : ℕ} {w : Window} (S1 : Starts t1 size1 w) (S2 : Starts t2 size2 w) where
@@ -94,27 +69,6 @@ module _ {t1 t2 : Layout} {size1 size2 : ℕ} {w : Window} (S1 : Starts t1 size1
 
   shared : Partition M a (bytes_of w)
   shared = elements_share t2 size2 S2.pattern _ _ S2.after
-
-  -- tables of zeros, of n places each
-  pub moves_ask : {c : Chosen} {one two : ℕ} → ChosenOk c t1.elements t2.elements → Lengths w one two → w.start.0 < w.end.0
-      → (row1 row2 : List ℕ) → row1 ≡ row_of t1.family → row2 ≡ row_of t2.family
-      → (n : ℕ) → 1 ≤ n → n ≤ 2 ^ 16 → FitsAll t1 size1 n → FitsAll t2 size2 n → let zeros = replicate {A = ℕ} n 0 in
-      Laid t1 size1 w row1 × (Laid t2 size2 w row2 × (ChosenOk c t1.elements t2.elements
-      × (TraysOk w one two × Rooms t1 size1 t2 size2 zeros zeros zeros zeros zeros zeros zeros)))
-  moves_ask C long some row1 row2 laid1 laid2 n least small fits1 fits2 =
-      let held : n ≤ length (replicate {A = ℕ} n 0) = omega (arith, length-replicate {A = ℕ} n 0) in (
-        record { starts = S1; laid = laid1 },
-        (
-          record { starts = S2; laid = laid2 },
-          (
-            C,
-            (
-              record { some = some; long = long },
-              record { first = room_for least small fits1; ranks_held = omega (arith, fits1.held); second = room_for least small fits2 },
-            ),
-          ),
-        ),
-      )
 
   module _ (t u : List ℕ) where
     -- an empty window has nothing to move
@@ -137,7 +91,7 @@ module _ {t1 t2 : Layout} {size1 size2 : ℕ} {w : Window} (S1 : Starts t1 size1
 
 -- both are choices that the code takes
 pub every_chosen : (c : Chosen) (one two : ℕ) → c ≡ every_pair two → ChosenOk c one two
-every_chosen c one two is = rw is (record { only = omega arith; ordered = omega arith; most = omega arith })
+every_chosen c one two is = rw is (record { only = tt; ordered = omega arith; most = omega arith })
 
 pub pair_chosen : (c : Chosen) (i j one two : ℕ) → c ≡ one_pair i j → i < one → j < two → ChosenOk c one two
-pair_chosen c i j one two is h k = rw is (record { only = omega arith; ordered = omega arith; most = omega arith })
+pair_chosen c i j one two is h k = rw is (record { only = h; ordered = omega arith; most = omega arith })

@@ -21,6 +21,7 @@ use Rattle.families.specs.Decoded.{tree_of, selections}
 use Rattle.families.specs.Owners.{owner}
 use Rattle.families.proofs.Owning.{owner_one}
 use Rattle.maps.specs.Selected.{elements_of, PatternOk}
+use Rattle.moves.specs.declared.ahead.Stride.{Stride}
 use Rattle.moves.specs.Owning.{held_by, Nexts, AllFilled}
 use Rattle.parts.specs.Tabled.{tabled, Owned}
 use Rattle.trays.specs.Tables.{NextsOf, Tables}
@@ -103,7 +104,7 @@ module _ {t : Layout} {size : ℕ} (P : PatternOk t size) {n : ℕ} (room : size
           o l k;
     }
 
-    pub owners_tables : {runs hops : List ℕ} → AllFilled owners size nexts runs hops → Tables t size owners runs hops
+    pub owners_tables : {strides : List Stride} → AllFilled owners size nexts strides → Tables t size owners strides
     owners_tables A = record {
       owned = owners_owned;
       is = owners_are;

@@ -2,7 +2,8 @@
 use mathlib.Core.Path.{◌≡◌, refl, sym, ap, ◌∙◌}
 use mathlib.Core.Bool.{Bool}
 use mathlib.Core.List.{List, ◌++◌}
-use Prim.Native.Nat.{ℕ, ◌+◌, ◌-◌, ◌*◌, ◌≤◌, ◌<◌}
+use Rattle.std.specs.Prelude.{Option}
+use Prim.Native.Nat.{ℕ, ◌+◌, ◌-◌, ◌≤◌, ◌<◌}
 use native.Mathlib.Nat.{add-sub_cancel_left}
 use native.Mathlib.Numerals.{add-one}
 use native.Mathlib.Omega.{arith}
@@ -13,26 +14,27 @@ use Rattle.counting.specs.Elements.{Elements, element, Partition}
 use Rattle.counting.specs.Trays.{counts, in_tray}
 use Rattle.counting.proofs.TrayParts.{part_within}
 use Rattle.families.specs.declared.Layout.{Layout}
+use Rattle.families.specs.Decoded.{row_of}
 use Rattle.maps.specs.declared.Selection.{Selection}
-use Rattle.maps.specs.declared.Window.{Window}
+use Rattle.maps.specs.declared.window.Window.{Window}
 use Rattle.maps.specs.Selected.{belongs, selection_of, elements_of}
 use Rattle.parts.specs.declared.choices.Chosen.{Chosen}
 use Rattle.parts.specs.declared.shares.Share.{Share}
+use Rattle.moves.specs.declared.ahead.Stride.{Stride}
 use Rattle.moves.specs.Strides.{Strides}
 use Rattle.moves.specs.Walks.{Carries}
 use Rattle.parts.specs.Pieces.{bytes_of, share_at, ShareOf, takes, renewed}
-use Rattle.trays.specs.Parts.{moved_where, Targets, TraysOk}
+use Rattle.trays.specs.Parts.{moved_where, Prepared, TraysOk}
 use Rattle.trays.proofs.Layouts.{elements_length, elements_share, selection_belongs, selection_from}
-use Rattle.trays.proofs.Choosing.{chosen_ok}
 use Rattle.trays.proofs.Choices.{length_where, where_none, where_more}
 
 -- ---- the loop
-pub record Parted (L M : Elements) (a n : ℕ) (t u₀ : List ℕ) (only first last : ℕ) (u : List ℕ) (j : ℕ) : Type 0 where
+pub record Parted (L M : Elements) (a n : ℕ) (t u₀ : List ℕ) (only : Option ℕ) (first last : ℕ) (u : List ℕ) (j : ℕ) : Type 0 where
   pub from : first ≤ j
   pub upto : j ≤ last
   pub is : u ≡ moved_where L M a n t (record { only = only; first = first; last = j }) u₀
 
-module _ {L M : Elements} {a n : ℕ} (once : Partition M a n) {t u₀ : List ℕ} {only first last : ℕ} where
+module _ {L M : Elements} {a n : ℕ} (once : Partition M a n) {t u₀ : List ℕ} {only : Option ℕ} {first last : ℕ} where
   pub parted_none : length u₀ ≡ n → first ≤ last → Parted L M a n t u₀ only first last u₀ first
   parted_none long h = record { from = omega arith; upto = h; is = sym (where_none L M a n once t u₀ long only first) }
 
@@ -60,7 +62,7 @@ pub parted_all : {L M : Elements} {a n : ℕ} {t u₀ : List ℕ} {c : Chosen} {
 parted_all {c = c} {j = j} P h = let end : j ≡ c.last = omega (arith, P.upto) in P.is ∙ rw end refl
 
 -- ---- a round of the loop, for the parts of a layout
-module _ {t : Layout} {size : ℕ} {w : Window} {row runs hops shares : List ℕ} (T : Targets t size w row runs hops shares) where
+module _ {t : Layout} {size : ℕ} {w : Window} {row : List ℕ} {strides : List Stride} {shares : List Share} (T : Prepared t size w row strides shares) where
   abbrev M : Elements
   M = elements_of t size
 
@@ -73,7 +75,7 @@ module _ {t : Layout} {size : ℕ} {w : Window} {row runs hops shares : List ℕ
   pub targets_once : Partition M a n
   targets_once = elements_share t size T.pattern a n T.after
 
-  module _ {L : Elements} {v u₀ : List ℕ} {only first last : ℕ} {u : List ℕ} {j : ℕ} (P : Parted L M a n v u₀ only first last u j)
+  module _ {L : Elements} {v u₀ : List ℕ} {only : Option ℕ} {first last : ℕ} {u : List ℕ} {j : ℕ} (P : Parted L M a n v u₀ only first last u j)
       (less : j < last) (most : last ≤ t.elements) where
     pub parting_element : j < t.elements
     parting_element = omega arith
@@ -81,7 +83,7 @@ module _ {t : Layout} {size : ℕ} {w : Window} {row runs hops shares : List ℕ
     there : j < length M
     there = omega (arith, elements_length t size)
 
-    pub parting_held : 4 * j + 3 < length shares
+    pub parting_held : j < length shares
     parting_held = omega (arith, T.shared.held, there)
 
     -- the part by its share
@@ -101,23 +103,21 @@ module _ {t : Layout} {size : ℕ} {w : Window} {row runs hops shares : List ℕ
       pub parting_fits : at + share.count ≤ n
       parting_fits = omega (arith, own.start, own.count, part_within M a n j there targets_once)
 
-      module _ (s : Selection) (chosen : s ≡ selection_of t size j) where
-        selects : belongs s row ≡ element M j
-        selects = selection_belongs t size row T.laid j parting_element s chosen
+      module _ (s : Selection) (chosen : s ≡ selection_of t size j) (lent : List ℕ) (laid : lent ≡ row_of t.family) where
+        selects : belongs s lent ≡ element M j
+        selects = selection_belongs t size lent laid j parting_element s chosen
 
         -- what `fill_part` asks
-        pub parting_asks : {one two : ℕ} → TraysOk w one two → Carries s row w one (length (take k (drop at u))) × Strides s (belongs s row) runs hops
+        pub parting_asks : {one two : ℕ} → TraysOk w one two → Carries s lent w one (length (take k (drop at u))) × Strides s (belongs s lent) strides
         parting_asks O = (
           record {
-            ok = chosen_ok T.pattern T.laid parting_element chosen;
-            after = omega (arith, selection_from t size row T.laid j parting_element s chosen, T.after);
+            after = omega (arith, selection_from t size lent laid j parting_element s chosen, T.after);
             some = O.some;
-            near = T.window.near;
             buffers = record { file = O.long.first; packed = rw selects (parted_part targets_once P there at k own.start long ∙ long) };
           },
-          rw chosen (T.strides j parting_element),
+          rw (chosen, laid) (T.ahead j parting_element),
         )
 
-        pub parting_next : (part : List ℕ) → part ≡ renewed (belongs s row) a n (takes L only) (in_tray L a n v) (take k (drop at u))
+        pub parting_next : (part : List ℕ) → part ≡ renewed (belongs s lent) a n (takes L only) (in_tray L a n v) (take k (drop at u))
             → Parted L M a n v u₀ only first last (take at u ++ (part ++ drop k (drop at u))) (j + 1)
-        parting_next part new = parted_next targets_once P there at k own.start long less (belongs s row) selects part new
+        parting_next part new = parted_next targets_once P there at k own.start long less (belongs s lent) selects part new

@@ -12,7 +12,6 @@ use Rattle.counting.specs.Count.{count_below}
 use Rattle.counting.proofs.Cases.{same_or_not}
 use Rattle.counting.proofs.Counts.{count_zero, count_here, count_skip, count_le}
 use Rattle.moves.specs.Owning.{held_by}
-use Rattle.parts.specs.Tabled.{Ranked}
 use Rattle.trays.specs.Tables.{CountedOk}
 
 pub record Ranking (owners : List ℕ) (period : ℕ) (counts₀ ranks₀ counts ranks : List ℕ) (u : ℕ) : Type 0 where
@@ -44,9 +43,6 @@ ranking_start {owners} {period} {counts} {ranks} ok = record {
 }
 
 module _ {owners : List ℕ} {period : ℕ} {counts₀ ranks₀ counts ranks : List ℕ} {u : ℕ} (R : Ranking owners period counts₀ ranks₀ counts ranks u) where
-  pub ranking_end : period ≤ u → Ranked owners period ranks
-  ranking_end past = record { held = omega (arith, R.ok.room, R.ranks_same); each = λ v l. R.each v (omega arith) }
-
   -- ---- one place more
   module _ (before : u < period) where
     abbrev o : ℕ

@@ -24,9 +24,6 @@ pub record Rooming (t : Layout) (size room e : ℕ) : Type 0 where
   pub ruled : (i : ℕ) → i < e → WF 0 (room - 1) (tree_of 4 t i)
   pub held : 1 ≤ e → size ≤ room
 
-pub rooming_start : (t : Layout) (size room : ℕ) → Rooming t size room 0
-rooming_start t size room = record { upto = omega arith; ruled = λ i l. absurd (omega arith); held = λ l. absurd (omega arith) }
-
 module _ {t : Layout} {size : ℕ} (P : PatternOk t size) {room e : ℕ} (R : Rooming t size room e) where
   -- a pattern that has an offset has an element
   elements_some : 1 ≤ t.elements

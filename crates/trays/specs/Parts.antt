@@ -1,18 +1,19 @@
 -- Parts of trays: a tray of which some parts are moved, and what the code asks of the layouts, of what is written down of them, and of the trays. Assumes
 -- nothing: these are definitions.
-use Rattle.std.specs.Prelude.{◌≡◌, Bool, ◌&&◌, cond, List, ℕ, ◌≤◌, ◌<◌, leb, ltb, length}
+use Rattle.std.specs.Prelude.{◌≡◌, Bool, ◌&&◌, cond, List, IfSome, ℕ, ◌≤◌, ◌<◌, leb, ltb}
 use Rattle.counting.specs.Elements.{Elements, first_of}
 use Rattle.counting.specs.Trays.{tray, in_tray}
 use Rattle.families.specs.declared.Layout.{Layout}
 use Rattle.families.specs.Decoded.{row_of}
-use Rattle.maps.specs.declared.Window.{Window}
+use Rattle.maps.specs.declared.window.Window.{Window}
 use Rattle.maps.specs.Selected.{selection_of, belongs, elements_of, PatternOk}
-use Rattle.runs.specs.Walking.{WindowOk}
+use Rattle.moves.specs.declared.ahead.Stride.{Stride}
 use Rattle.moves.specs.Strides.{Strides}
 use Rattle.parts.specs.declared.choices.Chosen.{Chosen}
 use Rattle.parts.specs.declared.pieces.Cycle.{Cycle}
+use Rattle.parts.specs.declared.shares.Share.{Share}
 use Rattle.parts.specs.Pieces.{bytes_of, SharesOf, takes}
-use Rattle.trays.specs.Tables.{RoomFor}
+use Rattle.trays.specs.declared.filling.Targets.{Targets}
 
 -- ---- what is moved
 -- x's element of M is one of those from `first` up to but not including `last`
@@ -26,18 +27,20 @@ moved_where L M a n t c u =
 
 -- what the code asks of a choice
 pub record ChosenOk (c : Chosen) (one two : ℕ) : Type 0 where
-  pub only : c.only ≤ one
+  pub only : IfSome c.only (λ e. e < one)
   pub ordered : c.first ≤ c.last
   pub most : c.last ≤ two
 
--- ---- what the code asks of the second layout, of which the parts are filled
-pub record Targets (t : Layout) (size : ℕ) (w : Window) (row runs hops shares : List ℕ) : Type 0 where
+-- ---- what is written down of the second layout, of which the parts are filled
+pub record Prepared (t : Layout) (size : ℕ) (w : Window) (row : List ℕ) (strides : List Stride) (shares : List Share) : Type 0 where
   pub pattern : PatternOk t size
   pub laid : row ≡ row_of t.family
   pub after : t.displacement ≤ w.start.0
-  pub window : WindowOk w
-  pub strides : (e : ℕ) → e < t.elements → Strides (selection_of t size e) (belongs (selection_of t size e) row) runs hops
+  pub ahead : (e : ℕ) → e < t.elements → Strides (selection_of t size e) (belongs (selection_of t size e) (row_of t.family)) strides
   pub shared : SharesOf (elements_of t size) t.displacement size w.start.0 (bytes_of w) shares
+
+abbrev pub TargetsOk : Targets → Window → Type 0
+TargetsOk s w = Prepared s.layout.now s.size w s.numbers.now s.strides.now s.shares.now
 
 -- .. and of two trays, also for a window that is not empty
 pub record Lengths (w : Window) (one two : ℕ) : Type 0 where
@@ -52,17 +55,10 @@ pub record TraysOk (w : Window) (one two : ℕ) : Type 0 where
 pub record Starts (t : Layout) (size : ℕ) (w : Window) : Type 0 where
   pub pattern : PatternOk t size
   pub after : t.displacement ≤ w.start.0
-  pub window : WindowOk w
 
 pub record Laid (t : Layout) (size : ℕ) (w : Window) (row : List ℕ) : Type 0 where
   pub starts : Starts t size w
   pub laid : row ≡ row_of t.family
-
--- .. and of the tables for two of them
-pub record Rooms (t1 : Layout) (size1 : ℕ) (t2 : Layout) (size2 : ℕ) (owners1 keeps skips ranks owners2 runs hops : List ℕ) : Type 0 where
-  pub first : RoomFor t1 size1 owners1 keeps skips
-  pub ranks_held : size1 ≤ length ranks
-  pub second : RoomFor t2 size2 owners2 runs hops
 
 -- the cycle of a layout
 abbrev pub cycle_of : Layout → (size : ℕ) → Cycle

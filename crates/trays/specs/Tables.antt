@@ -4,6 +4,7 @@ use Rattle.families.specs.declared.Layout.{Layout}
 use Rattle.families.specs.Forest.{has}
 use Rattle.families.specs.Decoded.{tree_of, LayoutOk}
 use Rattle.maps.specs.Selected.{elements_of}
+use Rattle.moves.specs.declared.ahead.Stride.{Stride}
 use Rattle.moves.specs.Strides.{First, Filled, Room}
 use Rattle.moves.specs.Owning.{held_by}
 use Rattle.parts.specs.Tabled.{tabled, Owned}
@@ -16,13 +17,13 @@ pub record NextsOf (t : Layout) (size : ℕ) (nexts : List ℕ) : Type 0 where
   pub past : (e : ℕ) → e < t.elements → size ≤ get_or nexts (suc e) 0
   pub first : (e : ℕ) → e < t.elements → First (has (tree_of 4 t e)) size (get_or nexts (suc e) 0 - size)
 
--- what the code asks of a table for owners: zeros, with room for every offset of the families and every place of a period, and room in the two others too
-pub record RoomFor (t : Layout) (size : ℕ) (owners runs hops : List ℕ) : Type 0 where
+-- what the code asks of a table for owners: zeros, with room for every offset of the families and every place of a period, and room in the other too
+pub record RoomFor (t : Layout) (size : ℕ) (owners : List ℕ) (strides : List Stride) : Type 0 where
   pub zeros : owners ≡ replicate (length owners) 0
   pub some : 1 ≤ length owners
   pub ruled : LayoutOk 4 (length owners - 1) t
   pub held : size ≤ length owners
-  pub room : Room size runs hops
+  pub room : Room size strides
 
 -- .. as it has in tables of `room` places each
 pub record FitsAll (t : Layout) (size room : ℕ) : Type 0 where
@@ -30,10 +31,10 @@ pub record FitsAll (t : Layout) (size room : ℕ) : Type 0 where
   pub held : size ≤ room
 
 -- THE TABLES of a layout: who has each place, and what lies ahead of it for its owner
-pub record Tables (t : Layout) (size : ℕ) (owners runs hops : List ℕ) : Type 0 where
+pub record Tables (t : Layout) (size : ℕ) (owners : List ℕ) (strides : List Stride) : Type 0 where
   pub owned : Owned t.elements size owners
   pub is : tabled t.elements t.displacement size owners ≡ elements_of t size
-  pub each : (e : ℕ) → e < t.elements → Filled (held_by owners (suc e)) size runs hops
+  pub each : (e : ℕ) → e < t.elements → Filled (held_by owners (suc e)) size strides
 
 -- what the code asks to count how many places before each are its owner's
 pub record CountedOk (owners : List ℕ) (period : ℕ) (counts ranks : List ℕ) : Type 0 where

@@ -1,63 +1,50 @@
 // Filling: the chosen parts of the second tray, from the first.
 ghost use Rattle.std.specs.Prelude.{◌≡◌, length};
 ghost use Rattle.maps.specs.Selected.{elements_of};
-ghost use Rattle.parts.specs.Pieces.{bytes_of, elements_by, Sources};
-ghost use Rattle.trays.specs.Parts.{moved_where, ChosenOk, Targets, TraysOk};
+ghost use Rattle.parts.specs.Pieces.{bytes_of, elements_by, SourcesOk};
+ghost use Rattle.trays.specs.Parts.{moved_where, ChosenOk, TargetsOk, TraysOk};
 
 use families::Layout;
 use maps::Window;
-use parts::{Chosen, Cycle};
+use moves::{Stride, Track};
+use parts::{Chosen, Share, Sources};
+
+// What is written down of the second layout: by place in its pattern what lies ahead there, and by element its share of a window.
+#[derive(Clone, Copy)]
+pub struct Targets<'a> {
+    pub numbers: &'a [u32],
+    pub layout: &'a Layout,
+    pub size: u32,
+    pub strides: &'a [Stride],
+    pub shares: &'a [Share],
+}
 
 // Fills the chosen parts of the second tray, each lent on where it starts.
 pub fn fill_parts(
-    numbers: &[u32],
-    layout: Layout,
-    size: u32,
+    targets: &Targets,
+    sources: &Sources,
     window: Window,
-    runs: &[u16],
-    hops: &[u16],
-    parts: &[u64],
-    cycle: Cycle,
-    owners: &[u8],
-    keeps: &[u16],
-    skips: &[u16],
-    ranks: &[u16],
-    shares: &[u64],
     chosen: Chosen,
     tray1: &[u8],
     tray2: &mut [u8],
 )
-    requires fact_1 { Targets layout size window numbers.now runs.now hops.now parts.now }
-    requires fact_2 { Sources cycle window.start.0 (bytes_of window) owners.now keeps.now skips.now ranks.now shares.now }
-    requires fact_3 { ChosenOk chosen cycle.elements layout.elements }
-    requires fact_4 { TraysOk window (length tray1.now) (length tray2.old) }
-    ensures { let L = elements_by cycle owners.now in let M = elements_of layout size in
+    requires targets { TargetsOk targets.now window }
+    requires sources { SourcesOk sources.now window.start.0 (bytes_of window) }
+    requires chosen { ChosenOk chosen sources.now.cycle.elements targets.now.layout.now.elements }
+    requires trays { TraysOk window (length tray1.now) (length tray2.old) }
+    ensures { let L = elements_by sources.now.cycle sources.now.owners.now in let M = elements_of targets.now.layout.now targets.now.size in
         tray2.new ≡ moved_where L M window.start.0 (bytes_of window) tray1.now chosen tray2.old }
 {
-    let last = chosen.last;
     let only = chosen.only;
-    let mut j = chosen.first;
-    while j < last {
-        let s = maps::selection_of(layout, size, j, numbers);
-        let part = parts::share_at(parts, j);
-        let from = part.start.0 as usize;
-        let to = from + part.count as usize;
-        parts::fill_part(
-            numbers,
-            s,
-            window,
-            runs,
-            hops,
-            cycle,
-            owners,
-            keeps,
-            skips,
-            ranks,
-            shares,
-            only,
-            tray1,
-            &mut tray2[from..to],
-        );
-        j += 1;
+    for j in chosen.first..chosen.last {
+        let subfile = maps::subfile_of(*targets.layout, targets.size, j, targets.numbers);
+        let track = Track {
+            subfile,
+            strides: targets.strides,
+        };
+        let share = targets.shares[j];
+        let from = share.start.0 as usize;
+        let to = from + share.count as usize;
+        parts::fill_part(&track, window, sources, only, tray1, &mut tray2[from..to]);
     }
 }

@@ -6,22 +6,20 @@ ghost use Rattle.parts.specs.Tabled.{Ranked};
 ghost use Rattle.trays.specs.Tables.{NextsOf, FitsAll, RoomFor, Tables, CountedOk};
 
 use families::{Layout, SubfileOffset};
+use moves::Stride;
 
 // Writes down, by owner, the first place that it has in the second of two periods. Before it the numbers are those of owners without a place.
 pub fn put_nexts(numbers: &[u32], layout: Layout, size: u32, nexts: &mut [usize])
-    requires fact_1 { numbers.now ≡ row_of layout.family }
-    requires fact_2 { PatternOk layout size }
-    requires fact_3 { nexts.old ≡ replicate 17 size }
+    requires row { numbers.now ≡ row_of layout.family }
+    requires pattern { PatternOk layout size }
+    requires unused { nexts.old ≡ replicate 17 size }
     ensures { NextsOf layout size nexts.new }
 {
-    let from = layout.displacement as u64;
-    let elements = layout.elements;
-    let mut e: usize = 0;
-    while e < elements {
-        let s = maps::selection_of(layout, size, e, numbers);
-        let byte = maps::file_inverse(numbers, s, SubfileOffset(0));
-        e += 1;
-        nexts[e] = size as usize + (byte.0 - from) as usize;
+    let from = u64::from(layout.displacement);
+    for e in 0..layout.elements {
+        let subfile = maps::subfile_of(layout, size, e, numbers);
+        let byte = subfile.byte(SubfileOffset(0));
+        nexts[e + 1] = size as usize + (byte.0 - from) as usize;
     }
 }
 
@@ -31,18 +29,17 @@ pub fn fill_tables(
     layout: Layout,
     size: u32,
     owners: &mut [u8],
-    runs: &mut [u16],
-    hops: &mut [u16],
+    strides: &mut [Stride],
 )
-    requires fact_1 { numbers.now ≡ row_of layout.family }
-    requires fact_2 { PatternOk layout size }
-    requires fact_3 { RoomFor layout size owners.old runs.old hops.old }
-    ensures { Tables layout size owners.new runs.new hops.new }
+    requires row { numbers.now ≡ row_of layout.family }
+    requires pattern { PatternOk layout size }
+    requires room { RoomFor layout size owners.old strides.old }
+    ensures { Tables layout size owners.new strides.new }
 {
     families::owners(numbers, layout, 4, owners);
     let mut nexts = [size as usize; 17];
     put_nexts(numbers, layout, size, &mut nexts);
-    moves::fill_strides(owners, size as usize, &mut nexts, runs, hops);
+    moves::fill_strides(owners, size as usize, &mut nexts, strides);
 }
 
 // How many places before each are its owner's. `counts` has a zero for each owner.
@@ -50,30 +47,25 @@ pub fn fill_ranks(owners: &[u8], period: usize, counts: &mut [u32], ranks: &mut 
     requires { CountedOk owners.now period counts.old ranks.old }
     ensures { Ranked owners.now period ranks.new }
 {
-    let mut place: usize = 0;
-    while place < period {
-        let owner = owners[place] as usize;
+    for place in 0..period {
+        let owner = usize::from(owners[place]);
         let rank = counts[owner];
         ranks[place] = rank as u16;
         counts[owner] = rank + 1;
-        place += 1;
     }
 }
 
 // Whether a table of `room` places has one for every offset of the layout's families and every place of its pattern.
 pub fn fits_all(numbers: &[u32], layout: Layout, size: u32, room: u64) -> bool
-    requires fact_1 { numbers.now ≡ row_of layout.family }
-    requires fact_2 { PatternOk layout size }
+    requires row { numbers.now ≡ row_of layout.family }
+    requires pattern { PatternOk layout size }
     ensures { result ≡ true → FitsAll layout size room }
 {
-    let elements = layout.elements;
-    let mut e: usize = 0;
-    while e < elements {
-        let s = maps::selection_of(layout, size, e, numbers);
-        if !runs::fits(numbers, s, room) {
+    for e in 0..layout.elements {
+        let subfile = maps::subfile_of(layout, size, e, numbers);
+        if !runs::fits(&subfile, room) {
             return false;
         }
-        e += 1;
     }
     true
 }

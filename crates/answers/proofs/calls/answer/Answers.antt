@@ -1,30 +1,33 @@
 -- `answer` meets its contract. Assumes nothing.
-use mathlib.Core.Path.{refl, sym, ◌∙◌}
-use native.Mathlib.Omega.{arith}
-use borrow.Author.Tests.{eqb-true}
-use Rattle.answers.specs.Frames.{Whole}
-use Rattle.answers.proofs.Replies.{reply_cut}
+use mathlib.Core.Path.{◌≡◌, sym, ap, ◌∙◌}
+use Rattle.answers.specs.Frames.{into_of}
+use Rattle.answers.proofs.Replies.{reply_cut, reply_unknown}
 use Rattle.answers.proofs.Ends.{into_room, lent_length, lent_room}
 use Rattle.answers.proofs.calls.answer.Goals as goal
-use Rattle.answers.proofs.calls.answer.Goals.{Else-not-is_whole}
+use Rattle.answers.proofs.calls.answer.Goals.{In_ok-frame}
 
--- past the test the frame is whole
-whole : (c : Else-not-is_whole) → Whole c.args.frame.now
-whole c = eqb-true _ _ (sym c.is_whole.ensures ∙ c.if-not-is_whole.false)
+pub returns-in_err-frame : goal.returns-in_err-frame
+returns-in_err-frame c = rw c.from_residual.ensures (reply_cut _ c.in_err-frame.ensures)
 
-pub returns-then-not-is_whole : goal.returns-then-not-is_whole
-returns-then-not-is_whole c = (reply_cut _ (sym c.is_whole.ensures ∙ c.if-not-is_whole.true), (omega arith, refl))
+pub returns-in_err-call : goal.returns-in_err-call
+returns-in_err-call c = rw (c.from_residual-in_err-call.ensures, ← c.in_ok-frame.ensures) (reply_unknown _ c.in_ok-frame.frame.whole c.in_err-call.ensures)
 
-pub into-into-requires : goal.into-into-requires
-into-into-requires c = whole c
+-- the space is lent as far as the destination buffer of these bytes goes
+destination : (c : In_ok-frame) → c.in_ok-frame.frame.destination.now ≡ into_of c.args.bytes.now
+destination c = c.in_ok-frame.frame.fourth ∙ ap into_of c.in_ok-frame.ensures
 
 pub slice_bounds-put_reply-end : goal.slice_bounds-put_reply-end
-slice_bounds-put_reply-end c = into_room _ c.args.space.now c.into-into.ensures c.requires
+slice_bounds-put_reply-end c = into_room _ c.args.space.now (destination (goal.at.slice_bounds-put_reply-end c).In_ok-frame) c.requires
 
 pub slice_bounds-put_reply-end-2 : goal.slice_bounds-put_reply-end-2
-slice_bounds-put_reply-end-2 c = sym (lent_length _ _ c.into-into.ensures c.requires)
+slice_bounds-put_reply-end-2 c = sym (lent_length _ _ (destination (goal.at.slice_bounds-put_reply-end-2 c).In_ok-frame) c.requires)
 
-pub put_reply-requires : goal.put_reply-requires
-put_reply-requires c =
-    let p = lent_room _ c.args.space.now c.into-into.ensures c.requires in
-    record { fact_1 = whole (goal.at.put_reply-requires c).Else-not-is_whole; fact_2 = p.0; fact_3 = p.1.0; fact_4 = p.1.1 }
+pub put_reply-requires-clause-buffered : goal.put_reply-requires-clause-buffered
+put_reply-requires-clause-buffered c =
+    rw c.in_ok-frame.ensures (lent_room _ c.args.space.now (destination (goal.at.put_reply-requires-clause-buffered c).In_ok-frame) c.requires).0
+
+pub put_reply-requires-clause-short : goal.put_reply-requires-clause-short
+put_reply-requires-clause-short c = (lent_room _ c.args.space.now (destination (goal.at.put_reply-requires-clause-short c).In_ok-frame) c.requires).1.0
+
+pub put_reply-requires-clause-lined : goal.put_reply-requires-clause-lined
+put_reply-requires-clause-lined c = (lent_room _ c.args.space.now (destination (goal.at.put_reply-requires-clause-lined c).In_ok-frame) c.requires).1.1

@@ -3,7 +3,4 @@ use Rattle.moves.proofs.ahead.fill_strides.Given as goal
 
 abbrev pub invariant-loop-place : goal.invariant-loop-place
 invariant-loop-place l =
-    Filling l.owners l.period l.initial.nexts l.initial.runs l.initial.hops l.place l.last l.run l.gap l.nexts l.runs l.hops
-
-abbrev pub decreases-loop-place : goal.decreases-loop-place
-decreases-loop-place l = l.place
+    Filling l.owners l.period l.initial.nexts l.place l.last l.run l.gap l.nexts l.strides

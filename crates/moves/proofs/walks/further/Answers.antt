@@ -6,9 +6,9 @@ use Rattle.moves.proofs.walks.further.Goals as goal
 pub returns-then-run-len : goal.returns-then-run-len
 returns-then-run-len c =
     let asked = c.args in
-    c.onward.ensures ∙ sym (furthers_on asked.s asked.hops.now asked.walk asked.run asked.len c.if-run-len.true)
+    c.onward.ensures ∙ sym (furthers_on asked.s asked.strides.now asked.walk asked.run asked.len c.if-run-len.true)
 
 pub returns : goal.returns
 returns c =
     let asked = c.args in
-    further_in asked.s asked.hops.now asked.walk asked.run asked.len c.if-run-len.false _ c.around.ensures
+    further_in asked.s asked.strides.now asked.walk asked.run asked.len c.if-run-len.false _ c.around.ensures

@@ -3,5 +3,5 @@ use Rattle.trays.proofs.Noting.{targets_noted}
 use Rattle.trays.proofs.moving.put_targets.Goals as goal
 
 pub returns : goal.returns
-returns c =
-    targets_noted c.requires.fact_1.starts c.fill_tables.ensures c.requires.fact_1.laid c.share_out.ensures
+returns g c =
+    targets_noted c.requires.laid.starts c.fill_tables.ensures c.requires.laid.laid c.share_out.ensures

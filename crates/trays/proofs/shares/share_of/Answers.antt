@@ -6,5 +6,5 @@ use Rattle.trays.proofs.shares.share_of.Goals as goal
 
 pub overflow_sub-result : goal.overflow_sub-result
 overflow_sub-result c =
-    let more = count_mono (belongs c.args.s c.args.numbers.now) _ _ c.requires.fact_2.ordered in
-    omega (arith, c.file_rank-before.ensures, c.file_rank-last.ensures, more)
+    let more = count_mono (belongs c.args.subfile.now.selection c.args.subfile.now.numbers.now) _ _ c.args.window.ok.ordered in
+    omega (arith, c.rank-before.ensures, c.rank-last.ensures, more)

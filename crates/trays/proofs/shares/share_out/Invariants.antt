@@ -1,4 +1,3 @@
-use Prim.Native.Nat.{◌-◌}
 use Rattle.maps.specs.Selected.{elements_of}
 use Rattle.parts.specs.Pieces.{bytes_of}
 use Rattle.trays.proofs.Allotting.{Allotted}
@@ -7,6 +6,3 @@ use Rattle.trays.proofs.shares.share_out.Given as goal
 abbrev pub invariant-loop-e : goal.invariant-loop-e
 invariant-loop-e l =
     Allotted (elements_of l.layout l.size) l.layout.displacement l.size l.window.start.0 (bytes_of l.window) l.initial.shares l.shares l.e l.at
-
-abbrev pub decreases-loop-e : goal.decreases-loop-e
-decreases-loop-e l = l.elements - l.e

@@ -1,8 +1,0 @@
--- `exact` meets its contract. Assumes nothing.
-use Rattle.astrephon.specs.Says.{mapped_says}
-use Rattle.astrephon.specs.Maps.{exact_call}
-use Rattle.answers.proofs.Replies.{asked}
-use Rattle.answers.proofs.asking.exact.Goals as goal
-
-pub returns : goal.returns
-returns c = asked mapped_says c.exact.result c.of_mapped.ensures c.exact.ensures (λ t. exact_call (c.sheet1.ensures t) (c.number_at-i.ensures t) (c.number_at.ensures t))
