@@ -59,10 +59,6 @@ module _ (xs ys : List ℕ) (i j a b : ℕ) {o : Pair} (O : Passes (unless_windo
   known : Paired r1 r2 i j a b o
   known = paired xs ys i j a b O.0 O.1.0 O.1.1
 
-  -- a window that the engine takes
-  pub shared_window : WindowOk a b
-  shared_window = record { ordered = known.forward; near = known.near }
-
   -- the subfiles of both
   module _ (s1 s2 : Selection) (families1 families2 : List Family) (p1 : s1 ≡ o.one.selection) (q1 : families1 ≡ o.one.layout.family) (p2 : s2 ≡ o.two.selection) (q2 : families2 ≡ o.two.layout.family) where
     one_known : Opened r1 i s1 families1
@@ -72,10 +68,10 @@ module _ (xs ys : List ℕ) (i j a b : ℕ) {o : Pair} (O : Passes (unless_windo
     two_known = lent o.two p2 q2 known.two
 
     -- what the engine asks
-    pub shared_asks : (w : Window) → w.start.0 ≡ a → w.end.0 ≡ b → SideOk s1 families1 65536 w.start.0 × SideOk s2 families2 65536 w.start.0
-    shared_asks w start end = (
-      side_ok one_known _ (omega (arith, known.after1, ap (λ (t : Selection). t.from) p1)),
-      side_ok two_known _ (omega (arith, known.after2, ap (λ (t : Selection). t.from) p2)),
+    pub shared_asks : SideOk s1 families1 65536 a × (SideOk s2 families2 65536 a × WindowOk a b)
+    shared_asks = (
+      side_ok one_known a (omega (arith, known.after1, ap (λ (t : Selection). t.from) p1)),
+      (side_ok two_known a (omega (arith, known.after2, ap (λ (t : Selection). t.from) p2)), record { ordered = known.forward; near = known.near }),
     )
 
     abbrev shared : List Run
