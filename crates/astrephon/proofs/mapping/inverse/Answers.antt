@@ -11,10 +11,10 @@ pub returns-then-place-ge-LIMIT : goal.returns-then-place-ge-LIMIT
 returns-then-place-ge-LIMIT c =
     let O = c.in_ok-opening.ensures in
     let S = c.subfile.ensures in
-    inverse_beyond (lent _ S.selection S.families (opened _ _ O.1 O.0)) c.args.y.0 _ _ c.byte-place.ensures (omega arith) c.if-place-ge-LIMIT.true
+    inverse_beyond (lent c.in_ok-opening.opening S.selection S.families (opened _ _ O.1 O.0)) c.args.y.0 _ _ c.byte-place.ensures (omega arith) c.if-place-ge-LIMIT.true
 
 pub returns : goal.returns
 returns c =
     let O = c.in_ok-opening.ensures in
     let S = c.subfile.ensures in
-    inverse_at (lent _ S.selection S.families (opened _ _ O.1 O.0)) _ _ c.byte-place.ensures c.if-place-ge-LIMIT.false
+    inverse_at (lent c.in_ok-opening.opening S.selection S.families (opened _ _ O.1 O.0)) _ _ c.byte-place.ensures c.if-place-ge-LIMIT.false

@@ -8,4 +8,4 @@ returns c =
     let O = c.in_ok-opening.ensures in
     let S = c.subfile.ensures in
     let K = opened_offset _ _ O.1 _ O.0 in
-    next_at (lent _ S.selection S.families K.0, K.1) _ c.rank.ensures
+    next_at (lent c.in_ok-opening.opening S.selection S.families K.0, K.1) _ c.rank.ensures

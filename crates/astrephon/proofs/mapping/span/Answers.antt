@@ -22,4 +22,4 @@ returns c =
     let O = c.in_ok-opening.ensures in
     let S = c.subfile-subfile.ensures in
     let passes = tests_passed a.sheet.now a.element O.1 O.0 (λ (d : ℕ). interval_tests d a.a.0 a.z.0) c.in_ok-check_range.ensures in
-    span_at (lent _ S.selection S.families (opened _ _ O.1 O.0)) a.a.0 a.z.0 passes _ _ c.rank-first.ensures c.rank-last.ensures
+    span_at (lent c.in_ok-opening.opening S.selection S.families (opened _ _ O.1 O.0)) a.a.0 a.z.0 passes _ _ c.rank-first.ensures c.rank-last.ensures

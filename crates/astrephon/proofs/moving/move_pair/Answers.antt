@@ -26,8 +26,9 @@ pub move_pair-requires : goal.move_pair-requires
 move_pair-requires c =
     let a = c.args in
     let o = c.in_ok-both.both in
+    let asks = move_asks _ _ c.in_ok-both.ensures a.a.0 a.b.0 a.tray1.now a.tray2.now c.in_ok-check_trays.ensures in
     let there = pair_known o.one.layout.elements a.i o.two.layout.elements a.j (passes_none _ c.in_ok-check_pair.ensures) in
-    record { first = (move_asks _ _ c.in_ok-both.ensures a.a.0 a.b.0 a.tray1.now a.tray2.now c.in_ok-check_trays.ensures _ refl refl).0; second = (move_asks _ _ c.in_ok-both.ensures a.a.0 a.b.0 a.tray1.now a.tray2.now c.in_ok-check_trays.ensures _ refl refl).1.0; element = there.0; other = there.1; lengths = (move_asks _ _ c.in_ok-both.ensures a.a.0 a.b.0 a.tray1.now a.tray2.now c.in_ok-check_trays.ensures _ refl refl).1.1 }
+    record { first = (asks _ refl refl).0; second = (asks _ refl refl).1.0; element = there.0; other = there.1; lengths = (asks _ refl refl).1.1 }
 
 pub returns-clause-leaves : goal.returns-clause-leaves
 returns-clause-leaves c = pair_done _ _ c.in_ok-both.ensures _ _ _ _ _ _ c.in_ok-check_pair.ensures c.in_ok-check_trays.ensures _ c.move_pair.ensures
