@@ -1,5 +1,5 @@
 // Elements: the records of a sheet from its header to its last byte.
-ghost use Rattle.std.specs.Prelude.{◌≡◌, ◌+◌, ◌-◌, ◌*◌, ◌≤◌, ◌<◌, length};
+ghost use Rattle.std.specs.Prelude.{◌≡◌, ◌+◌, ◌-◌, ◌≤◌, ◌<◌, length};
 ghost use Rattle.sheets.specs.Sheet.{top, elements_from, elements_of};
 ghost use Rattle.sheets.specs.Steps.{Progressed, WrittenAll, with_element, start};
 
@@ -45,8 +45,12 @@ pub fn read_elements(
     done: Progress,
     families: &mut [Family],
 ) -> Result<Progress, Refused>
-    requires { (done.place ≤ length sheet.now) × ((done.elements + count ≤ 16) × ((done.families ≤ 256) × (length families.old ≡ 256 - done.families))) }
-    ensures { (Progressed (elements_from sheet.now (256 - done.families) count done.place) done result) × (WrittenAll (elements_from sheet.now (256 - done.families) count done.place) families.old families.new) }
+    requires inside { done.place ≤ length sheet.now }
+    requires elements { done.elements + count ≤ 16 }
+    requires families { done.families ≤ 256 }
+    requires long { length families.old ≡ 256 - done.families }
+    ensures progress { Progressed (elements_from sheet.now (256 - done.families) count done.place) done result }
+    ensures written { WrittenAll (elements_from sheet.now (256 - done.families) count done.place) families.old families.new }
 {
     if count == 0 {
         return Ok(done);

@@ -1,5 +1,5 @@
 // The pattern that the elements share: its size, and number 11, the first offset that is not in exactly one element.
-ghost use Rattle.std.specs.Prelude.{◌≡◌, ◌==◌, ◌||◌, take, ◌-◌, ◌^◌, ◌≤◌, ◌<◌};
+ghost use Rattle.std.specs.Prelude.{◌≡◌, ◌==◌, ◌||◌, ◌-◌, ◌^◌, ◌≤◌, ◌<◌};
 ghost use Rattle.std.specs.List.{position};
 ghost use Rattle.families.specs.Decoded.{trees_of, LayoutOk};
 ghost use Rattle.sheets.specs.Pattern.{sizes};

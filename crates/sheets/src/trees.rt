@@ -26,8 +26,12 @@ pub fn read_siblings(
     limits: Limits,
     families: &mut [Family],
 ) -> Result<Step, Refused>
-    requires { (at ≤ length sheet.now) × ((count ≤ 65535 * levels) × ((limits.room ≤ 256) × (length families.old ≡ limits.room))) }
-    ensures { (Stepped at limits.from (forest_from sheet.now levels limits count at) result) × (Written (forest_from sheet.now levels limits count at) families.old families.new) }
+    requires inside { at ≤ length sheet.now }
+    requires few { count ≤ 65535 * levels }
+    requires room { limits.room ≤ 256 }
+    requires long { length families.old ≡ limits.room }
+    ensures step { Stepped at limits.from (forest_from sheet.now levels limits count at) result }
+    ensures written { Written (forest_from sheet.now levels limits count at) families.old families.new }
 {
     if count == 0 {
         return Ok(Step {
@@ -62,8 +66,12 @@ pub fn read_family(
     limits: Limits,
     families: &mut [Family],
 ) -> Result<Step, Refused>
-    requires { (at ≤ length sheet.now) × ((1 ≤ levels) × ((limits.room ≤ 256) × (length families.old ≡ limits.room))) }
-    ensures { (Stepped at limits.from (forest_from sheet.now levels limits 1 at) result) × (Written (forest_from sheet.now levels limits 1 at) families.old families.new) }
+    requires inside { at ≤ length sheet.now }
+    requires some { 1 ≤ levels }
+    requires room { limits.room ≤ 256 }
+    requires long { length families.old ≡ limits.room }
+    ensures step { Stepped at limits.from (forest_from sheet.now levels limits 1 at) result }
+    ensures written { Written (forest_from sheet.now levels limits 1 at) families.old families.new }
 {
     records::check_record(sheet, records::FAMILY, at, levels, limits)?;
     let mut f = records::family_record(sheet, at);
@@ -86,7 +94,8 @@ pub fn read_family(
 
 // The limits of a family's children.
 pub fn inner_limits(limits: Limits, f: Family) -> Limits
-    requires { (f.l ≤ f.r) × (1 ≤ limits.room) }
+    requires forward { f.l ≤ f.r }
+    requires room { 1 ≤ limits.room }
     ensures { result ≡ within limits f }
 {
     Limits {

@@ -25,7 +25,9 @@ elements-step : (c : In_ok-all)
     let R = elements_from a.sheet.now 256 (le16 a.sheet.now 8) 10 in
     Progressed R start (Ok c.in_ok-all.all) × WrittenAll R a.families.now c.read_elements.new.families
 unfolding start
-elements-step c = rw (c.at_the_start.ensures, c.le16_at-count.ensures.number) at c.in_ok-all.ensures
+elements-step c =
+    let e = rw (c.at_the_start.ensures, c.le16_at-count.ensures.number) at c.in_ok-all.ensures in
+    (e.progress, e.written)
 
 got-at : (c : In_ok-all) → let xs = c.args.sheet.now in ProgressGot start c.in_ok-all.all (elements_from xs 256 (le16 xs 8) 10)
 got-at c = progress_got _ _ _ (elements-step c).0
@@ -41,7 +43,7 @@ elements-refused : (c : After-from_residual-in_err-all) → (Progressed (element
 unfolding start
 elements-refused c =
     let p = err_from_is_err_and c.from_residual-in_err-all.result c.from_residual-in_err-all.ensures.1 in
-    let e = rw (c.at_the_start.ensures, c.le16_at-count.ensures.number) at c.in_err-all.ensures.0 in
+    let e = rw (c.at_the_start.ensures, c.le16_at-count.ensures.number) at c.in_err-all.ensures.progress in
     let is = elements_refused _ (fine-at (goal.at.returns-in_err-all-clause-written c).In_ok-check_record) _ _ (progress_refused _ c.in_err-all.field-0.0 _ e) in
     rw (p.1, p.2) (refused_on_all _ _ c.in_err-all.field-0.0 is _ _)
 
@@ -58,7 +60,7 @@ pub read_elements-requires : goal.read_elements-requires
 unfolding start
 read_elements-requires c =
     let H = header_there _ (fine-at (goal.at.read_elements-requires c).In_ok-check_record) in
-    rw c.at_the_start.ensures (H.0, (omega (arith, H.2, c.le16_at-count.ensures.number), (omega arith, omega arith)))
+    rw c.at_the_start.ensures (record { inside = H.0; elements = omega (arith, H.2, c.le16_at-count.ensures.number); families = omega arith; long = omega arith })
 
 pub returns-in_err-all-clause-progress : goal.returns-in_err-all-clause-progress
 returns-in_err-all-clause-progress c = (elements-refused c).0

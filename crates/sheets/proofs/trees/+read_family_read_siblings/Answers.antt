@@ -25,13 +25,13 @@ use Rattle.sheets.proofs.trees.+read_family_read_siblings.Goals.{read_family-Aft
 taken_at : (t : ℕ) (c : read_family-In_ok-check_record t)
     → let a = c.args in
     FamilyTaken a.sheet.now a.levels a.limits a.at
-taken_at t c = taken _ _ _ _ (omega arith) c.in_ok-check_record.ensures
+taken_at t c = taken _ _ _ _ c.requires.some c.in_ok-check_record.ensures
 
 -- what reading its children answered
 kids-step : (t : ℕ) (c : read_family-In_ok-kids t)
     → let a = c.args in
     Stepped (a.at + 22) 0 (children a.sheet.now (a.levels - 1) a.limits a.at) (Ok c.in_ok-kids.kids)
-kids-step t c = rw (c.inner_limits.ensures, c.family_record-f.ensures.held) at c.in_ok-kids.ensures.0
+kids-step t c = rw (c.inner_limits.ensures, c.family_record-f.ensures.held) at c.in_ok-kids.ensures.step
 
 kids-at : (t : ℕ) (c : read_family-In_ok-kids t)
     → let a = c.args in
@@ -53,20 +53,21 @@ kids-room-long t c =
 kids-written : (t : ℕ) (c : read_family-After-read_siblings t)
     → let a = c.args in
     Written (children a.sheet.now (a.levels - 1) a.limits a.at) (take (length a.families.now - 1) (drop 1 a.families.now)) c.read_siblings.new.families
-kids-written t c = rw (c.inner_limits.ensures, c.family_record-f.ensures.held) at c.read_siblings.ensures.1
+kids-written t c = rw (c.inner_limits.ensures, c.family_record-f.ensures.held) at c.read_siblings.ensures.written
 
 pub read_family-returns-in_err-check_record : goal.read_family-returns-in_err-check_record
 read_family-returns-in_err-check_record t c =
     let a = c.args in
     let p = err_from_is_err_and c.from_residual.result c.from_residual.ensures.1 in
     let is = fault_read a.sheet.now a.levels a.limits 1 a.at (omega arith) (omega arith) c.in_err-check_record.field-0.0 c.in_err-check_record.ensures in
-    rw (p.1, p.2) (refused_on _ _ _ c.in_err-check_record.field-0.0 is _ _)
+    let on = refused_on _ _ _ c.in_err-check_record.field-0.0 is _ _ in
+    rw (p.1, p.2) (record { step = on.0; written = on.1 })
 
 pub read_family-family_record-f-requires : goal.read_family-family_record-f-requires
 read_family-family_record-f-requires t c = family_inside _ _ (taken_at t c).head
 
 pub read_family-inner_limits-requires : goal.read_family-inner_limits-requires
-read_family-inner_limits-requires t c = let T = taken_at t (goal.at.read_family-inner_limits-requires t c).In_ok-check_record in rw c.family_record-f.ensures.held (T.fits.forward, T.room)
+read_family-inner_limits-requires t c = let T = taken_at t (goal.at.read_family-inner_limits-requires t c).In_ok-check_record in rw c.family_record-f.ensures.held (record { forward = T.fits.forward; room = T.room })
 
 pub read_family-slice_bounds-read_siblings-count : goal.read_family-slice_bounds-read_siblings-count
 read_family-slice_bounds-read_siblings-count t c = omega (arith, (taken_at t (goal.at.read_family-slice_bounds-read_siblings-count t c).In_ok-check_record).room)
@@ -79,16 +80,17 @@ read_family-read_siblings-requires t c =
     let T = taken_at t (goal.at.read_family-read_siblings-requires t c).In_ok-check_record in
     let e = c.family_record-f.ensures in
     let deep : c.args.levels ≤ 1 → c.family_record-f.result.children ≡ 0 = rw e.held T.deep in
-    let left = room_behind c.args.families.now c.args.limits.room 1 (omega arith) in
-    (omega (arith, e.children, c.decreases), (family_inside _ _ T.head, (children_deep _ _ e.children deep, rw c.inner_limits.ensures (omega arith, left))))
+    let left = room_behind c.args.families.now c.args.limits.room 1 c.requires.long in
+    (omega (arith, e.children, c.requires.some, c.decreases), (family_inside _ _ T.head, (children_deep _ _ e.children deep, rw c.inner_limits.ensures (omega (arith, c.requires.room), left))))
 
 pub read_family-returns-in_err-kids : goal.read_family-returns-in_err-kids
 read_family-returns-in_err-kids t c =
     let a = c.args in
     let p = err_from_is_err_and c.from_residual-in_err-kids.result c.from_residual-in_err-kids.ensures.1 in
-    let e = rw (c.inner_limits.ensures, c.family_record-f.ensures.held) at c.in_err-kids.ensures.0 in
+    let e = rw (c.inner_limits.ensures, c.family_record-f.ensures.held) at c.in_err-kids.ensures.step in
     let is = children_refused a.sheet.now a.levels a.limits 1 a.at (omega arith) (omega arith) c.in_ok-check_record.ensures _ _ (step_refused _ _ c.in_err-kids.field-0.0 _ e) in
-    rw (p.1, p.2) (refused_on _ _ _ c.in_err-kids.field-0.0 is _ _)
+    let on = refused_on _ _ _ c.in_err-kids.field-0.0 is _ _ in
+    rw (p.1, p.2) (record { step = on.0; written = on.1 })
 
 pub read_family-overflow_cast-f : goal.read_family-overflow_cast-f
 read_family-overflow_cast-f t c = let K = kids-at t (goal.at.read_family-overflow_cast-f t c).In_ok-kids in omega (arith, K.place, K.room)
@@ -113,23 +115,24 @@ read_family-returns t c =
     let f = c.family_record-f.ensures.held in
     let last : c.last_byte.result ≡ last_of (family_record a.sheet.now a.at) = rw f at c.last_byte.ensures.last in
     let span : (c.in_ok-kids.kids.place - a.at) / 22 ≡ suc (total K.kids) = ap (λ (x : ℕ). (x - a.at) / 22) K.place ∙ families_read a.at (suc (total K.kids)) in
-    let step = family_step _ _ _ _ (omega arith) c.in_ok-check_record.ensures _ K in
-    let row = family_written _ _ _ _ (omega arith) c.in_ok-check_record.ensures _ K a.families.now c.read_siblings.new.families _ _ in (
-      rw last step,
-      row (omega (arith, (taken_at t (goal.at.read_family-returns t c).In_ok-check_record).room)) refl (kids-written t (goal.at.read_family-returns t c).After-read_siblings) (ap₂ spanned f span),
-    )
+    let fine = c.in_ok-check_record.ensures in
+    let room : 1 ≤ length a.families.now = omega (arith, c.requires.long, (taken_at t (goal.at.read_family-returns t c).In_ok-check_record).room) in
+    record {
+      step = rw last (family_step _ _ _ _ c.requires.some fine _ K);
+      written = family_written _ _ _ _ c.requires.some fine _ K a.families.now c.read_siblings.new.families _ _ room refl (kids-written t (goal.at.read_family-returns t c).After-read_siblings) (ap₂ spanned f span);
+    }
 
 -- the first family was read
 first_at : (t : ℕ) (c : read_siblings-In_ok-first t)
     → let a = c.args in
     FirstRead a.sheet.now a.levels a.limits a.count a.at c.in_ok-first.first
-first_at t c = first_read _ _ _ _ _ (omega arith) (omega arith) (omega arith) _ c.in_ok-first.ensures.0
+first_at t c = first_read _ _ _ _ _ (omega arith) (omega arith) (omega arith) _ c.in_ok-first.ensures.step
 
 first-few : (t : ℕ) (c : read_siblings-In_ok-first t) → suc (total (first_at t c).kids) ≤ 256
 first-few t c =
     omega (arith, (first_at t c).room)
 
--- the row with it is as long as it was, and has room for it
+-- the room with it is as long as it was
 first-long : (t : ℕ) (c : read_siblings-After-read_family t)
     → length c.read_family.new.families ≡ length c.args.families.now
 first-long t c = search rules
@@ -142,14 +145,15 @@ first-fits t c =
     omega (arith, span_is _ _ _ _ _ _ (first_at t c), (first_at t c).room, long)
 
 pub read_siblings-returns-then-count-eq0 : goal.read_siblings-returns-then-count-eq0
-read_siblings-returns-then-count-eq0 t c = none_on _ _ _ _ _ _ c.if-count-eq0.true
+read_siblings-returns-then-count-eq0 t c = let on = none_on _ _ _ _ _ _ c.if-count-eq0.true in record { step = on.0; written = on.1 }
 
 pub read_siblings-returns-in_err-first : goal.read_siblings-returns-in_err-first
 read_siblings-returns-in_err-first t c =
     let a = c.args in
     let p = err_from_is_err_and c.from_residual.result c.from_residual.ensures.1 in
-    let is = siblings_refused _ _ _ _ a.count _ _ (omega arith) (omega arith) (step_refused _ _ c.in_err-first.field-0.0 _ c.in_err-first.ensures.0) in
-    rw (p.1, p.2) (refused_on _ _ _ c.in_err-first.field-0.0 is _ _)
+    let is = siblings_refused _ _ _ _ a.count _ _ (omega arith) (omega arith) (step_refused _ _ c.in_err-first.field-0.0 _ c.in_err-first.ensures.step) in
+    let on = refused_on _ _ _ c.in_err-first.field-0.0 is _ _ in
+    rw (p.1, p.2) (record { step = on.0; written = on.1 })
 
 pub read_siblings-overflow_cast-others : goal.read_siblings-overflow_cast-others
 read_siblings-overflow_cast-others t c = let O = first_at t (goal.at.read_siblings-overflow_cast-others t c).In_ok-first in omega (arith, span_is _ _ _ _ _ _ O, O.room)
@@ -172,12 +176,15 @@ read_siblings-read_siblings-requires t c =
     let O = first_at t (goal.at.read_siblings-read_siblings-requires t c).In_ok-first in
     let k = (c.in_ok-first.first.place - a.at) / 22 in
     let fits : k ≤ a.limits.room = omega (arith, span_is _ _ _ _ _ _ O, O.room) in
-    let long = first-long t (goal.at.read_siblings-read_siblings-requires t c).After-read_family in
-    (omega (arith, c.decreases), (O.inside, (omega arith, (omega (arith, fits), room_behind c.read_family.new.families a.limits.room k (omega (arith, long))))))
+    let long : length c.read_family.new.families ≡ a.limits.room = first-long t (goal.at.read_siblings-read_siblings-requires t c).After-read_family ∙ c.requires.long in
+    let room = room_behind c.read_family.new.families a.limits.room k long in
+    (omega (arith, c.decreases), (O.inside, (omega arith, (omega (arith, fits, c.requires.room), room))))
 
 pub read_siblings-returns : goal.read_siblings-returns
 read_siblings-returns t c =
-    let a = c.args in
     let O = first_at t (goal.at.read_siblings-returns t c).In_ok-first in
     let r = c.read_siblings in
-    (rest_step _ _ _ _ _ _ O _ r.ensures.0, rest_written _ _ _ _ _ _ O a.families.now c.read_family.new.families r.new.families _ refl c.read_family.ensures.1 r.ensures.1)
+    record {
+      step = rest_step _ _ _ _ _ _ O _ r.ensures.step;
+      written = rest_written _ _ _ _ _ _ O c.args.families.now c.read_family.new.families r.new.families _ refl c.read_family.ensures.written r.ensures.written;
+    }
