@@ -7,6 +7,7 @@ use said::Answer;
 pub fn gather(frame: &Frame, into: &mut [u8]) -> Answer
     ensures { Tells (gather_outcome frame.now.bytes.now into.old) result into.new }
 {
+<<<<<<< HEAD
     said::of_outcome(astrephon::gather(
         frame.sheet1,
         frame.i(),
@@ -15,6 +16,9 @@ pub fn gather(frame: &Frame, into: &mut [u8]) -> Answer
         frame.source,
         into,
     ))
+=======
+    said::of_outcome(astrephon::gather(frame.sheet1, frame.i, frame.a, frame.b, frame.source, into))
+>>>>>>> 5d0b6040df10dd42aef141c4ccbb9a51d559ea8e
 }
 
 pub fn scatter(frame: &Frame, into: &mut [u8]) -> Answer
@@ -22,9 +26,15 @@ pub fn scatter(frame: &Frame, into: &mut [u8]) -> Answer
 {
     said::of_outcome(astrephon::scatter(
         frame.sheet1,
+<<<<<<< HEAD
         frame.i(),
         frame.a(),
         frame.b(),
+=======
+        frame.i,
+        frame.a,
+        frame.b,
+>>>>>>> 5d0b6040df10dd42aef141c4ccbb9a51d559ea8e
         frame.source,
         into,
     ))
@@ -36,8 +46,13 @@ pub fn move_tray(frame: &Frame, into: &mut [u8]) -> Answer
     said::of_outcome(astrephon::move_tray(
         frame.sheet1,
         frame.sheet2,
+<<<<<<< HEAD
         frame.a(),
         frame.b(),
+=======
+        frame.a,
+        frame.b,
+>>>>>>> 5d0b6040df10dd42aef141c4ccbb9a51d559ea8e
         frame.source,
         into,
     ))
@@ -49,10 +64,17 @@ pub fn move_pair(frame: &Frame, into: &mut [u8]) -> Answer
     said::of_outcome(astrephon::move_pair(
         frame.sheet1,
         frame.sheet2,
+<<<<<<< HEAD
         frame.i(),
         frame.j(),
         frame.a(),
         frame.b(),
+=======
+        frame.i,
+        frame.j,
+        frame.a,
+        frame.b,
+>>>>>>> 5d0b6040df10dd42aef141c4ccbb9a51d559ea8e
         frame.source,
         into,
     ))

@@ -1,13 +1,12 @@
 // The parts of a frame: a call, four numbers, four blobs. What is said here is of the bytes that follow a frame's first number.
 ghost use Rattle.std.specs.Prelude.{◌≡◌, ◌≤◌, ◌<◌, ◌^◌, length, MatchOption};
 ghost use Rattle.sheets.specs.Bytes.{le32};
-ghost use Rattle.answers.specs.Numbers.{le64};
 ghost use Rattle.answers.specs.Calls.{number_of, NamesNone};
 ghost use Rattle.answers.specs.Frames.{call_of, blob, blob_end, end1, Whole, i_of, j_of, a_of, b_of, from_of, into_of};
 
 use crate::calls::Call;
 use crate::numbers;
-use astrephon::{FileOffset, SubfileOffset};
+use astrephon::FileOffset;
 
 // The most bytes that may follow a frame's first number.
 pub const MOST: usize = 65532;
@@ -50,10 +49,21 @@ fn blob(bytes: &[u8], at: usize) -> Option<(&[u8], usize)>
     Some((&bytes[start..end], end))
 }
 
+<<<<<<< HEAD
 // A whole frame: its bytes, and the four blobs that fill them. They are neither cut nor too many.
 #[derive(Clone, Copy)]
 pub struct Frame<'a> {
     bytes: &'a [u8],
+=======
+// A whole frame: its bytes, the four numbers, and the four blobs. They fill the bytes, which are neither cut nor too many.
+#[derive(Clone, Copy)]
+pub struct Frame<'a> {
+    bytes: &'a [u8],
+    pub i: u64,
+    pub j: u64,
+    pub a: FileOffset,
+    pub b: FileOffset,
+>>>>>>> 5d0b6040df10dd42aef141c4ccbb9a51d559ea8e
     pub sheet1: &'a [u8],
     pub sheet2: &'a [u8],
     // The source buffer.
@@ -61,6 +71,13 @@ pub struct Frame<'a> {
     // The destination buffer, as it was before the call.
     pub destination: &'a [u8],
     ghost whole: { Whole bytes.now },
+<<<<<<< HEAD
+=======
+    ghost number_i: { i ≡ i_of bytes.now },
+    ghost number_j: { j ≡ j_of bytes.now },
+    ghost number_a: { a.0 ≡ a_of bytes.now },
+    ghost number_b: { b.0 ≡ b_of bytes.now },
+>>>>>>> 5d0b6040df10dd42aef141c4ccbb9a51d559ea8e
     ghost first: { sheet1.now ≡ blob bytes.now 33 },
     ghost second: { sheet2.now ≡ blob bytes.now (end1 bytes.now) },
     ghost third: { source.now ≡ from_of bytes.now },
@@ -82,6 +99,13 @@ impl<'a> Frame<'a> {
         }
         Some(Frame {
             bytes,
+<<<<<<< HEAD
+=======
+            i: numbers::le64_at(bytes, I),
+            j: numbers::le64_at(bytes, J),
+            a: FileOffset(numbers::le64_at(bytes, A)),
+            b: FileOffset(numbers::le64_at(bytes, B)),
+>>>>>>> 5d0b6040df10dd42aef141c4ccbb9a51d559ea8e
             sheet1,
             sheet2,
             source,
@@ -97,6 +121,7 @@ impl<'a> Frame<'a> {
     {
         Call::try_from(self.bytes[0]).ok()
     }
+<<<<<<< HEAD
 
     // One of the four numbers.
     #[tactic(auto, using(crate::proofs::Ends::first_fits))]
@@ -138,4 +163,6 @@ impl<'a> Frame<'a> {
     {
         FileOffset(self.number_at(B))
     }
+=======
+>>>>>>> 5d0b6040df10dd42aef141c4ccbb9a51d559ea8e
 }

@@ -16,10 +16,10 @@ fn list_runs(frame: &Frame, into: &mut [u8], list: &mut [u64]) -> Answer
     let listed = astrephon::shared_runs(
         frame.sheet1,
         frame.sheet2,
-        frame.i(),
-        frame.j(),
-        frame.a(),
-        frame.b(),
+        frame.i,
+        frame.j,
+        frame.a,
+        frame.b,
         list,
     );
     numbers::put_slots(list, into);
