@@ -3,6 +3,8 @@ ghost use Rattle.std.specs.Prelude.{◌≡◌};
 ghost use Rattle.openings.specs.Refusals.{sheet_number, told};
 
 use crate::{Refusal, Which};
+use std::error::Error;
+use std::fmt;
 
 impl Which {
     pub fn number(&self) -> u8
@@ -59,3 +61,29 @@ impl Refusal {
         }
     }
 }
+
+impl fmt::Display for Which {
+    fn fmt<W: fmt::Write>(&self, f: &mut fmt::Formatter<W>) -> fmt::Result {
+        f.write_str(match self {
+            Which::First => "the first sheet",
+            Which::Second => "the second sheet",
+        })
+    }
+}
+
+impl fmt::Display for Refusal {
+    fn fmt<W: fmt::Write>(&self, f: &mut fmt::Formatter<W>) -> fmt::Result {
+        match self {
+            Refusal::Sheet(which, refused) => write!(f, "{which}: {refused}"),
+            Refusal::Element => f.write_str("the sheet has no such element"),
+            Refusal::Before => f.write_str("it is before the displacement"),
+            Refusal::Far => f.write_str("it is past the greatest file offset"),
+            Refusal::Window => f.write_str("it ends before it starts"),
+            Refusal::Foreign => f.write_str("the offset belongs to another element"),
+            Refusal::Buffer => f.write_str("a buffer does not have the length that is asked for"),
+            Refusal::Room(runs) => write!(f, "the list has no room for {runs} runs"),
+        }
+    }
+}
+
+impl Error for Refusal {}

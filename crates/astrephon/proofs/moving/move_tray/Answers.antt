@@ -16,7 +16,7 @@ pub move_tray-requires : goal.move_tray-requires
 move_tray-requires c =
     let a = c.args in
     let K = move_asks _ _ c.in_ok-both.ensures a.a.0 a.b.0 a.tray1.now a.tray2.now c.in_ok-check_trays.ensures _ refl refl in
-    record { fact_1 = K.0; fact_2 = K.1.0; fact_3 = K.1.1 }
+    record { fact_1 = K.0; fact_2 = search (K.0, K.1.0); fact_3 = K.1.1 }
 
 pub returns-clause-leaves : goal.returns-clause-leaves
 returns-clause-leaves c = moved_done _ _ c.in_ok-both.ensures _ _ _ _ c.in_ok-check_trays.ensures _ c.move_tray.ensures
