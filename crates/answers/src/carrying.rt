@@ -1,4 +1,5 @@
-// The calls that carry bytes, from a frame's source buffer into its destination buffer.
+// The calls that carry bytes, from a frame's source buffer into its destination buffer. Each hands its own call of the library what that asks of the frame: one
+// function for all would take a closure that says just this, and be no plainer.
 ghost use Rattle.answers.specs.Replies.{Tells, gather_outcome, scatter_outcome, move_outcome, pair_move_outcome};
 
 use crate::frames::Frame;
