@@ -5,15 +5,15 @@ use mathlib.Core.List.{List, [], ◌∷◌}
 use Prim.Native.Nat.{ℕ, ◌-◌, ◌≤◌, ◌<◌}
 use native.Mathlib.Omega.{arith}
 use Rattle.counting.specs.Count.{count_below}
+use Rattle.families.specs.declared.Family.{Family}
 use Rattle.families.specs.Forest.{WF}
-use Rattle.families.specs.Decoded.{row_of, LayoutOk}
 use Rattle.sheets.specs.Reading.{Reading}
 use Rattle.sheets.specs.Refusals.{Test}
 use Rattle.sheets.specs.Sheet.{read_sheet}
 use Rattle.sheets.proofs.Accepted.{accepted_law}
 use Rattle.maps.specs.declared.Selection.{Selection}
-use Rattle.maps.specs.Selected.{families_of, belongs, SelectionOk, selection_of}
-use Rattle.maps.proofs.Chosen.{families_tree, selection_ok, accepted_pattern, belongs_tree}
+use Rattle.maps.specs.Selected.{families_of, belongs, SelectionOk, selection_of, PatternOk}
+use Rattle.maps.proofs.Chosen.{families_tree, accepted_pattern, belongs_tree}
 use Rattle.openings.specs.declared.Opening.{Opening}
 use Rattle.openings.specs.declared.Refusal.{Refusal}
 use Rattle.openings.specs.Said.{Said, done}
@@ -24,15 +24,13 @@ use Rattle.openings.specs.Openings.{Passes, Refuses, Chosen}
 use Rattle.openings.proofs.Orders.{sheet_passed, sheet_through, fault_through}
 use Rattle.openings.proofs.Faults.{element_there, element_known, offset_within, offset_known, range_within, range_known, buffer_long, buffer_known}
 
--- ---- an accepted sheet: its layout meets the rules
-pub layout_rules : (xs : List ℕ) (r : Reading) → r ≡ read_sheet xs → r.number ≡ 0 → LayoutOk 4 65535 r.layout
-layout_rules xs r read fine = rw read (accepted_law xs (ap (λ (s : Reading). s.number) (sym read) ∙ fine)).ok
+-- ---- an accepted sheet: its elements share its pattern out
+pub accepted_shares : (xs : List ℕ) (r : Reading) → r ≡ read_sheet xs → (read_sheet xs).number ≡ 0 → PatternOk r.layout r.size
+accepted_shares xs r read fine = rw read (accepted_pattern (read_sheet xs) (accepted_law xs fine))
 
--- .. so the layout of what `read` accepts does
-pub read_rules : (xs : List ℕ) (k : ℕ) (r : Reading) → Passes (unless_sheet k (read_sheet xs)) × (r ≡ read_sheet xs) → LayoutOk 4 65535 r.layout
-read_rules xs k r R =
-    let fine = (sheet_through k (read_sheet xs) (sym (R.0 (done [])))).0 in
-    layout_rules xs r R.1 (ap (λ (s : Reading). s.number) R.1 ∙ fine)
+-- .. so those of what `read` accepts do
+pub read_shares : (xs : List ℕ) (k : ℕ) (r : Reading) → Passes (unless_sheet k (read_sheet xs)) × (r ≡ read_sheet xs) → PatternOk r.layout r.size
+read_shares xs k r R = accepted_shares xs r R.1 (sheet_through k (read_sheet xs) (sym (R.0 (done [])))).0
 
 -- ---- WHAT THE CHECKS LET THROUGH: where all is as they ask every call goes on, and a call that did its work had it so
 -- an element of an accepted sheet
@@ -108,14 +106,14 @@ module _ (r : Reading) (e a b : ℕ) where
         let K = buffer_known file (b - a) packed count buffers.0 in
         (record { window = W.0; file_long = K.0; packed_long = K.1 }, buffers.1)
 
--- ---- WHAT A CALL KNOWS of an element that was opened
-pub record Opened (r : Reading) (e : ℕ) (o : Opening) : Type 0 where
+-- ---- WHAT A CALL KNOWS of an element that was opened, with its selection s of these families
+pub record Opened (r : Reading) (e : ℕ) (s : Selection) (families : List Family) : Type 0 where
   pub element : ElementFine r e
-  pub ok : SelectionOk o.selection o.numbers
-  pub ruled : WF 0 65535 (families_of o.selection o.numbers)
-  pub short : o.selection.period ≤ 65536
-  pub from : o.selection.from ≡ r.layout.displacement
-  pub is : belongs o.selection o.numbers ≡ offsets_of r e
+  pub ok : SelectionOk s families
+  pub ruled : WF 0 65535 (families_of s families)
+  pub short : s.period ≤ 65536
+  pub from : s.from ≡ r.layout.displacement
+  pub is : belongs s families ≡ offsets_of r e
 
 from_displacement : (r : Reading) (e : ℕ) → (selection_of r.layout r.size e).from ≡ r.layout.displacement
 unfolding selection_of
@@ -125,28 +123,33 @@ period_short : (r : Reading) (e : ℕ) → r.size ≤ 65536 → (selection_of r.
 unfolding selection_of
 period_short r e h = h
 
-belongs_offsets : (r : Reading) (e : ℕ) → belongs (selection_of r.layout r.size e) (row_of r.layout.family) ≡ offsets_of r e
+belongs_offsets : (r : Reading) (e : ℕ) → belongs (selection_of r.layout r.size e) r.layout.family ≡ offsets_of r e
 unfolding offsets_of
 belongs_offsets r e = belongs_tree r.layout e r.size
 
-pub chosen_known : (xs : List ℕ) (e : ℕ) {o : Opening} → let r = read_sheet xs in Chosen r e o → ElementFine r e → Opened r e o
-chosen_known xs e C E =
+pub chosen_known : (xs : List ℕ) (e : ℕ) {o : Opening} → let r = read_sheet xs in Chosen r e o → ElementFine r e → Opened r e o.selection o.layout.family
+chosen_known xs e {o} C E =
     let r = read_sheet xs in
     let A = accepted_law xs E.fine in
     record {
       element = E;
-      ok = rw (C.selection, C.laid) (selection_ok r.layout r.size (accepted_pattern r A) e E.there);
-      ruled = rw (C.selection, C.laid) (rw (families_tree r.layout e r.size) (A.ok.ruled e E.there));
+      ok = o.ok;
+      ruled = rw (C.selection, C.layout) (rw (families_tree r.layout e r.size) (A.ok.ruled e E.there));
       short = rw C.selection (period_short r e A.most);
       from = ap (λ (t : Selection). t.from) C.selection ∙ from_displacement r e;
-      is = rw (C.selection, C.laid) (belongs_offsets r e);
+      is = rw (C.selection, C.layout) (belongs_offsets r e);
     }
+
+-- .. and of its subfile
+pub lent : {r : Reading} {e : ℕ} (o : Opening) {s : Selection} {families : List Family} → s ≡ o.selection → families ≡ o.layout.family
+    → Opened r e o.selection o.layout.family → Opened r e s families
+lent o p q K = rw (p, q) K
 
 module _ (xs : List ℕ) (e : ℕ) {o : Opening} (C : Chosen (read_sheet xs) e o) where
   abbrev r : Reading
   r = read_sheet xs
 
-  pub opened : Passes (unless_element r e) → Opened r e o
+  pub opened : Passes (unless_element r e) → Opened r e o.selection o.layout.family
   opened P = chosen_known xs e C (element_through r e (sym (P (done [])))).0
 
   -- tests of the displacement, after the element was opened: as the code has it
@@ -161,12 +164,12 @@ module _ (xs : List ℕ) (e : ℕ) {o : Opening} (C : Chosen (read_sheet xs) e o
     tests_passed Q next = rw (opened P).from at (Q next) ∙ P _
 
   -- .. for a file offset
-  pub opened_offset : (x : ℕ) → Passes (unless_offset r e x) → Opened r e o × OffsetFine r e x
+  pub opened_offset : (x : ℕ) → Passes (unless_offset r e x) → Opened r e o.selection o.layout.family × OffsetFine r e x
   opened_offset x P = let X = (offset_through r e x (sym (P (done [])))).0 in (chosen_known xs e C X.element, X)
 
 -- ---- WHAT A CALL KNOWS of a window that was opened
 pub record Windowed (r : Reading) (e a b : ℕ) (o : Opening) : Type 0 where
-  pub opened : Opened r e o
+  pub opened : Opened r e o.selection o.layout.family
   pub forward : a ≤ b
   pub after : o.selection.from ≤ a
   pub near : b ≤ LIMIT
@@ -181,7 +184,7 @@ windowed xs e a b P C = window_known xs C (window_through (read_sheet xs) e a b 
 
 -- the count of its bytes is the packed length
 pub count_is : {r : Reading} {e a b : ℕ} {o : Opening} → Windowed r e a b o → (c : ℕ)
-    → c ≡ count_below (belongs o.selection o.numbers) b - count_below (belongs o.selection o.numbers) a → c ≡ packed_length r e a b
+    → c ≡ count_below (belongs o.selection o.layout.family) b - count_below (belongs o.selection o.layout.family) a → c ≡ packed_length r e a b
 count_is {a} {b} W c counted = counted ∙ ap (λ (p : ℕ → Bool). count_below p b - count_below p a) W.opened.is
 
 -- ---- .. and of two buffers, each of which has its length
@@ -193,7 +196,7 @@ buffered xs e a b file packed P C =
 
 -- ---- the lengths of two buffers, after a window was opened and its bytes counted: as the code has it
 module _ (xs : List ℕ) (e a b file packed : ℕ) {o : Opening} (P : Passes (unless_window (read_sheet xs) e a b)) (C : Chosen (read_sheet xs) e o)
-    (c : ℕ) (counted : c ≡ count_below (belongs o.selection o.numbers) b - count_below (belongs o.selection o.numbers) a) where
+    (c : ℕ) (counted : c ≡ count_below (belongs o.selection o.layout.family) b - count_below (belongs o.selection o.layout.family) a) where
   is_length : c ≡ packed_length (read_sheet xs) e a b
   is_length = count_is (windowed xs e a b P C) c counted
 

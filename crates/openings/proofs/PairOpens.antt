@@ -1,11 +1,11 @@
 -- Opening two sheets, and an element of each: what a call knows of what was opened. Assumes nothing.
-use mathlib.Core.Path.{◌≡◌, refl, sym, ap, ◌∙◌}
+use mathlib.Core.Path.{◌≡◌, refl, sym, ◌∙◌}
 use mathlib.Core.List.{List, []}
 use Prim.Native.Nat.{ℕ, ◌≤◌}
 use native.Mathlib.Omega.{arith}
-use Rattle.families.specs.Decoded.{LayoutOk}
 use Rattle.sheets.specs.Reading.{Reading}
 use Rattle.sheets.specs.Sheet.{read_sheet}
+use Rattle.maps.specs.Selected.{PatternOk}
 use Rattle.openings.specs.declared.Pair.{Pair}
 use Rattle.openings.specs.declared.Sheets.{Sheets}
 use Rattle.openings.specs.Said.{Said, done}
@@ -14,7 +14,7 @@ use Rattle.openings.specs.Offsets.{LIMIT, pair_tests, window_tests, both_from, u
 use Rattle.openings.specs.Openings.{Passes, accepted_as, Chosen}
 use Rattle.openings.proofs.Orders.{sheet_passed, fault_passed, sheet_through, fault_through}
 use Rattle.openings.proofs.Faults.{range_known, pair_fine, pair_known}
-use Rattle.openings.proofs.Opens.{layout_rules, ElementFine, Opened, chosen_known}
+use Rattle.openings.proofs.Opens.{accepted_shares, ElementFine, Opened, chosen_known}
 
 -- ---- both are accepted: every call goes on; and a call that did its work had two that are
 pub sheets_on : (r1 r2 : Reading) → r1.number ≡ 0 → r2.number ≡ 0 → Passes (unless_sheets r1 r2)
@@ -35,11 +35,11 @@ module _ (xs ys : List ℕ) {o : Sheets} (S : Passes (unless_sheets (read_sheet 
   fine : ((read_sheet xs).number ≡ 0) × ((read_sheet ys).number ≡ 0)
   fine = both_accepted (read_sheet xs) (read_sheet ys) S.0
 
-  pub first_rules : LayoutOk 4 65535 o.one.layout
-  first_rules = layout_rules xs (accepted_as o.one) S.1.0 (ap (λ (r : Reading). r.number) S.1.0 ∙ fine.0)
+  pub first_shares : PatternOk o.one.layout o.one.size
+  first_shares = accepted_shares xs (accepted_as o.one) S.1.0 fine.0
 
-  pub second_rules : LayoutOk 4 65535 o.two.layout
-  second_rules = layout_rules ys (accepted_as o.two) S.1.1 (ap (λ (r : Reading). r.number) S.1.1 ∙ fine.1)
+  pub second_shares : PatternOk o.two.layout o.two.size
+  second_shares = accepted_shares ys (accepted_as o.two) S.1.1 fine.1
 
 -- ---- both elements are there: every call goes on; and a call that did its work had two that are
 module _ (r1 r2 : Reading) (i j : ℕ) where
@@ -56,8 +56,8 @@ module _ (r1 r2 : Reading) (i j : ℕ) where
 
 -- ---- WHAT A CALL KNOWS of a pair that was opened
 pub record Paired (r1 r2 : Reading) (i j a b : ℕ) (o : Pair) : Type 0 where
-  pub one : Opened r1 i o.one
-  pub two : Opened r2 j o.two
+  pub one : Opened r1 i o.one.selection o.one.layout.family
+  pub two : Opened r2 j o.two.selection o.two.layout.family
   pub forward : a ≤ b
   pub after1 : o.one.selection.from ≤ a
   pub after2 : o.two.selection.from ≤ a

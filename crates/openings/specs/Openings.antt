@@ -1,6 +1,5 @@
 -- How the calls open an element, an element of each of two sheets, or two sheets: what is opened, or the first refusal. Assumes nothing: these are definitions.
 use Rattle.std.specs.Prelude.{◌≡◌, Result, Ok, Err, ℕ}
-use Rattle.families.specs.Decoded.{row_of}
 use Rattle.sheets.specs.Reading.{Reading}
 use Rattle.sheets.specs.Answered.{reading_of}
 use Rattle.sheets.specs.declared.Sheet.{Sheet}
@@ -34,10 +33,10 @@ abbrev pub Reads : (k : ℕ) → (r : Reading) → Result Sheet Refusal → Type
 Reads k r (Ok s) = Passes (unless_sheet k r) × (accepted_as s ≡ r)
 Reads k r (Err f) = Refuses (unless_sheet k r) f
 
--- what element e selects, and the numbers of the sheet's families in a row
+-- what element e selects, of the sheet's families
 pub record Chosen (r : Reading) (e : ℕ) (o : Opening) : Type 0 where
   pub selection : o.selection ≡ selection_of r.layout r.size e
-  pub laid : o.numbers ≡ row_of r.layout.family
+  pub layout : o.layout ≡ r.layout
 
 -- AN ELEMENT is opened after some checks
 abbrev pub Opens : (checks : Said → Said) → (r : Reading) → (e : ℕ) → Result Opening Refusal → Type 0

@@ -5,6 +5,10 @@
 // `ranges` checks an index, an offset, a window or a length.
 #![tactic(auto)]
 
+ghost use Rattle.maps.specs.Selected.{SelectionOk};
+ghost use Rattle.maps.specs.Facts.{selection_prop};
+
+use families::Layout;
 use maps::Selection;
 use sheets::{Refused, Sheet};
 
@@ -46,11 +50,12 @@ pub enum Refusal {
     Room(u64),
 }
 
-// What an element selects of the file: its selection, over the numbers of its sheet's families in a row.
+// What an element selects of the file: its selection, of the families of its sheet's layout.
 #[derive(Clone, Copy)]
 pub struct Opening {
-    pub numbers: [u32; families::ROW],
+    pub layout: Layout,
     pub selection: Selection,
+    pub ghost ok: { SelectionOk selection layout.family } by { selection_prop _ _ },
 }
 
 // What an element of each of two sheets selects.

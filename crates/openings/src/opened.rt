@@ -1,27 +1,26 @@
 // Opening an element of a sheet, also for an offset, a window, or a window and two buffers. Each of these opens as the one before it does, and checks more.
 ghost use Rattle.std.specs.Prelude.{◌≡◌, ◌-◌, ◌≤◌, ◌<◌};
 ghost use Rattle.counting.specs.Count.{count_below};
-ghost use Rattle.families.specs.Decoded.{LayoutOk};
 ghost use Rattle.sheets.specs.Sheet.{read_sheet};
-ghost use Rattle.maps.specs.Selected.{belongs, SelectionOk};
+ghost use Rattle.maps.specs.Selected.{belongs, PatternOk};
 ghost use Rattle.openings.specs.Offsets.{unless_element, unless_offset, unless_window};
 ghost use Rattle.openings.specs.Buffers.{unless_buffers};
 ghost use Rattle.openings.specs.Openings.{accepted_as, Chosen, Opens};
 
 use crate::{Opening, Refusal, Which, ranges, reading};
 use families::FileOffset;
+use maps::Subfile;
 use sheets::Sheet;
 
 // What an element of an accepted sheet selects.
 pub fn choose(sheet: Sheet, element: usize) -> Opening
-    requires rules { LayoutOk 4 65535 sheet.layout }
+    requires shared { PatternOk sheet.layout sheet.size }
     requires there { element < sheet.layout.elements }
     ensures { Chosen (accepted_as sheet) element result }
 {
-    let mut numbers = [0u32; families::ROW];
-    families::lay_out(sheet.layout, &mut numbers);
-    let selection = maps::selection_of(sheet.layout, sheet.size, element, &numbers);
-    Opening { numbers, selection }
+    let layout = sheet.layout;
+    let selection = maps::selection_of(&layout, sheet.size, element);
+    Opening { layout, selection }
 }
 
 // Opens an element of a sheet.
@@ -76,14 +75,22 @@ pub fn open_buffers(
 }
 
 impl Opening {
+    // The element's subfile.
+    pub fn subfile(&self) -> Subfile<'_>
+        ensures selection { result.selection ≡ self.now.selection }
+        ensures families { result.families.now ≡ self.now.layout.family }
+    {
+        Subfile {
+            selection: self.selection,
+            families: &self.layout.family,
+        }
+    }
+
     // How many bytes of a window are selected.
     pub fn count(&self, a: FileOffset, b: FileOffset) -> u64
-        requires selects { SelectionOk self.now.selection self.now.numbers }
         requires forward { a.0 ≤ b.0 }
-        ensures { let p = belongs self.now.selection self.now.numbers in result ≡ count_below p b.0 - count_below p a.0 }
+        ensures { let p = belongs self.now.selection self.now.layout.family in result ≡ count_below p b.0 - count_below p a.0 }
     {
-        let first = maps::file_rank(&self.numbers, self.selection, a);
-        let last = maps::file_rank(&self.numbers, self.selection, b);
-        last.0 - first.0
+        self.subfile().count(a, b)
     }
 }

@@ -3,11 +3,8 @@ use Rattle.std.proofs.lemmas.Result.{err_from_is_err_and}
 use Rattle.openings.proofs.Opens.{windowed, counted_refused, counted_passed}
 use Rattle.openings.proofs.opened.open_buffers.Goals as goal
 
-pub count-selected-requires-clause-selects : goal.count-selected-requires-clause-selects
-count-selected-requires-clause-selects c = let O = c.in_ok-opening.ensures in (windowed _ _ _ _ O.0 O.1).opened.ok
-
-pub count-selected-requires-clause-forward : goal.count-selected-requires-clause-forward
-count-selected-requires-clause-forward c = let O = c.in_ok-opening.ensures in (windowed _ _ _ _ O.0 O.1).forward
+pub count-selected-requires : goal.count-selected-requires
+count-selected-requires c = let O = c.in_ok-opening.ensures in record { forward = (windowed _ _ _ _ O.0 O.1).forward }
 
 pub overflow_sub-b : goal.overflow_sub-b
 overflow_sub-b c = let O = c.in_ok-opening.ensures in (windowed _ _ _ _ O.0 O.1).forward
