@@ -2,7 +2,7 @@
 use mathlib.Core.Path.{◌≡◌, refl, sym, ap, ◌∙◌}
 use mathlib.Core.Bool.{Bool, true, false, not, true≢false}
 use mathlib.Core.Logic.{⊎_elim}
-use mathlib.Core.List.{[], ◌∷◌}
+use mathlib.Core.List.{List, [], ◌∷◌}
 use Prim.Native.Nat.{ℕ, ◌≤◌, ◌<◌}
 use native.Mathlib.Omega.{arith}
 use borrow.Author.Tests.{le-leb, lt-leb}
@@ -11,13 +11,14 @@ use Rattle.counting.proofs.Counts.{count_le}
 use Rattle.counting.proofs.Cases.{lt_or_le}
 use Rattle.counting.proofs.Nths.{nth_none}
 use Rattle.counting.proofs.Periods.{owns_none}
+use Rattle.families.specs.declared.Family.{Family}
 use Rattle.families.specs.Forest.{has}
 use Rattle.families.specs.Decoded.{tree_of}
 use Rattle.sheets.specs.Reading.{Reading}
 use Rattle.maps.specs.Selected.{belongs, Byte}
 use Rattle.maps.proofs.BytesOf.{inverse_near, inverse_far}
 use Rattle.openings.specs.declared.Refusal.TheVariants.{Far, Foreign}
-use Rattle.openings.specs.declared.Opening.{Opening}
+use Rattle.maps.specs.declared.Selection.{Selection}
 use Rattle.openings.specs.Said.{done}
 use Rattle.openings.specs.Refusals.{FAR, FOREIGN, refusal_says, unless_fault}
 use Rattle.openings.specs.Offsets.{LIMIT, offsets_of, rank_of, place_of, interval_tests, unless_element}
@@ -53,11 +54,11 @@ module _ (r : Reading) (e : ℕ) (E : ElementFine r e) where
       ∙ fault_passed _ _ 0 (row_absent FAR _ (lt-leb LIMIT (place_of r e y) (omega (arith, is)))) refl ∙ element_on r e E _
 
 -- ---- an element was opened for a file offset: another element's, or this one's
-module _ {r : Reading} {e x : ℕ} {o : Opening} (K : Opened r e o × OffsetFine r e x) where
-  ranked : (y : ℕ) → y ≡ count_below (belongs o.selection o.numbers) x → done (y ∷ []) ≡ done (rank_of r e x ∷ [])
+module _ {r : Reading} {e x : ℕ} {s : Selection} {families : List Family} (K : Opened r e s families × OffsetFine r e x) where
+  ranked : (y : ℕ) → y ≡ count_below (belongs s families) x → done (y ∷ []) ≡ done (rank_of r e x ∷ [])
   ranked y q = ap (λ (m : ℕ). done (m ∷ [])) (q ∙ ap (λ (p : ℕ → Bool). count_below p x) K.0.is)
 
-  module _ (b : Bool) (has : b ≡ belongs o.selection o.numbers x) where
+  module _ (b : Bool) (has : b ≡ belongs s families x) where
     has_too : b ≡ offsets_of r e x
     has_too = has ∙ ap (λ (p : ℕ → Bool). p x) K.0.is
 
@@ -65,14 +66,14 @@ module _ {r : Reading} {e x : ℕ} {o : Opening} (K : Opened r e o × OffsetFine
     unfolding exact_of
     exact_foreign foreign = fault_refused _ _ FOREIGN (row_there FOREIGN _ (ap not (sym has_too ∙ foreign))) (λ z. absurd (omega arith)) ∙ offset_on r e x K.1 _
 
-    pub exact_at : (y : ℕ) → y ≡ count_below (belongs o.selection o.numbers) x → b ≡ true → done (y ∷ []) ≡ exact_of r e x
+    pub exact_at : (y : ℕ) → y ≡ count_below (belongs s families) x → b ≡ true → done (y ∷ []) ≡ exact_of r e x
     exact_at y rank own = ranked y rank ∙ exact_own K.1 (sym has_too ∙ own)
 
-  pub next_at : (y : ℕ) → y ≡ count_below (belongs o.selection o.numbers) x → done (y ∷ []) ≡ next_of r e x
+  pub next_at : (y : ℕ) → y ≡ count_below (belongs s families) x → done (y ∷ []) ≡ next_of r e x
   next_at y rank = ranked y rank ∙ next_any K.1
 
 -- ---- an element was opened
-module _ {r : Reading} {e : ℕ} {o : Opening} (O : Opened r e o) where
+module _ {r : Reading} {e : ℕ} {s : Selection} {families : List Family} (O : Opened r e s families) where
   -- ---- the inverse: a byte with no file offset below the limit, and one that has it
   module _ (y : ℕ) where
     no_place : place_of r e y ≡ LIMIT → refusal_says Far ≡ inverse_of r e y
@@ -84,16 +85,16 @@ module _ {r : Reading} {e : ℕ} {o : Opening} (O : Opened r e o) where
     inverse_past h = no_place (nth_none (offsets_of r e) LIMIT y (omega (arith, count_le (offsets_of r e) LIMIT)))
 
     -- a byte at or before y is past the limit, and so is byte y
-    pub inverse_beyond : (z x : ℕ) → Byte (belongs o.selection o.numbers) z x → z ≤ y → LIMIT ≤ x → refusal_says Far ≡ inverse_of r e y
+    pub inverse_beyond : (z x : ℕ) → Byte (belongs s families) z x → z ≤ y → LIMIT ≤ x → refusal_says Far ≡ inverse_of r e y
     inverse_beyond z x byte l h = no_place (inverse_far (offsets_of r e) z x (rw (← O.is) byte) LIMIT h y l)
 
-    pub inverse_at : (x : ℕ) → Byte (belongs o.selection o.numbers) y x → x < LIMIT → done (x ∷ []) ≡ inverse_of r e y
+    pub inverse_at : (x : ℕ) → Byte (belongs s families) y x → x < LIMIT → done (x ∷ []) ≡ inverse_of r e y
     inverse_at x byte h = inverse_own r e O.element y x (rw (← O.is) byte) h
 
   -- ---- the span, of an interval that passes
   pub span_at : (a z : ℕ) → Passes (λ next. unless_element r e (unless_fault (interval_tests r.layout.displacement a z) next))
-      → (first last : ℕ) → first ≡ count_below (belongs o.selection o.numbers) a → last ≡ count_below (belongs o.selection o.numbers) z → done (first ∷ last ∷ []) ≡ span_of r e a z
+      → (first last : ℕ) → first ≡ count_below (belongs s families) a → last ≡ count_below (belongs s families) z → done (first ∷ last ∷ []) ≡ span_of r e a z
   unfolding span_of
   span_at a z P first last f l =
-      let rank : (x y : ℕ) → y ≡ count_below (belongs o.selection o.numbers) x → y ≡ rank_of r e x = λ x y q. q ∙ ap (λ (p : ℕ → Bool). count_below p x) O.is in
+      let rank : (x y : ℕ) → y ≡ count_below (belongs s families) x → y ≡ rank_of r e x = λ x y q. q ∙ ap (λ (p : ℕ → Bool). count_below p x) O.is in
       (λ i. done (rank a first f i ∷ rank z last l i ∷ [])) ∙ P _

@@ -8,20 +8,20 @@ use Rattle.counting.specs.Elements.{Elements}
 use Rattle.counting.specs.Trays.{moved, pair_moved}
 use Rattle.sheets.specs.Reading.{Reading}
 use Rattle.sheets.specs.Sheet.{read_sheet}
-use Rattle.sheets.proofs.Accepted.{accepted_law}
-use Rattle.maps.specs.declared.Window.{Window}
+use Rattle.maps.specs.declared.window.Window.{Window}
+use Rattle.maps.specs.Windows.{WindowOk}
 use Rattle.maps.specs.Selected.{elements_of}
-use Rattle.maps.proofs.Chosen.{accepted_pattern}
 use Rattle.openings.specs.declared.Refusal.{Refusal}
 use Rattle.openings.specs.declared.Sheets.{Sheets}
 use Rattle.openings.specs.Said.{Said, done}
 use Rattle.openings.specs.Refusals.{unless_sheets, unless_fault}
-use Rattle.openings.specs.Offsets.{LIMIT, offsets_of, pair_tests, both_from}
+use Rattle.openings.specs.Offsets.{offsets_of, pair_tests, both_from}
 use Rattle.openings.specs.Buffers.{unless_trays}
 use Rattle.openings.specs.Openings.{Passes, Refuses, accepted_as}
 use Rattle.openings.proofs.Orders.{left_held, left_written}
 use Rattle.openings.proofs.Verdicts.{passes_none}
 use Rattle.openings.proofs.Faults.{trays_known}
+use Rattle.openings.proofs.Opens.{accepted_shares}
 use Rattle.openings.proofs.PairOpens.{both_accepted}
 use Rattle.trays.specs.Parts.{Lengths, Starts}
 use Rattle.astrephon.specs.Moves.{elements_read, move_of, pair_move_of}
@@ -31,9 +31,8 @@ unfolding elements_of offsets_of
 elements_are r = refl
 
 -- what the engine asks of an accepted sheet
-starts : (xs : List ℕ) (r : Reading) → r ≡ read_sheet xs → (read_sheet xs).number ≡ 0 → (w : Window) → r.layout.displacement ≤ w.start.0 → w.start.0 ≤ w.end.0 → w.end.0 ≤ LIMIT
-    → Starts r.layout r.size w
-starts xs r read fine w after ordered near = record { pattern = accepted_pattern r (rw read (accepted_law xs fine)); after = after; window = record { ordered = ordered; near = near } }
+starts : (xs : List ℕ) (r : Reading) → r ≡ read_sheet xs → (read_sheet xs).number ≡ 0 → (w : Window) → r.layout.displacement ≤ w.start.0 → Starts r.layout r.size w
+starts xs r read fine w after = record { pattern = accepted_shares xs r read fine; after = after }
 
 -- ---- as the code has them: o is what was opened
 module _ (xs ys : List ℕ) {o : Sheets} (S : Passes (unless_sheets (read_sheet xs) (read_sheet ys)) × ((accepted_as o.one ≡ read_sheet xs) × (accepted_as o.two ≡ read_sheet ys))) (a b : ℕ) (t held : List ℕ) where
@@ -63,14 +62,17 @@ module _ (xs ys : List ℕ) {o : Sheets} (S : Passes (unless_sheets (read_sheet 
 
   -- ---- they are fine
   module _ (T : Passes (trays (accepted_as o.one) (accepted_as o.two))) where
-    -- what the engine asks
+    -- a window that the engine takes, and what it asks
+    pub move_window : WindowOk a b
+    move_window = let K = trays_known (both_from (accepted_as o.one) (accepted_as o.two)) a b (length t) (length held) (passes_none _ T) in record { ordered = K.0; near = K.2 }
+
     pub move_asks : (w : Window) → w.start.0 ≡ a → w.end.0 ≡ b → Starts o.one.layout o.one.size w × (Starts o.two.layout o.two.size w × Lengths w (length t) (length held))
     move_asks w start end =
         let fine = both_accepted r1 r2 S.0 in
         let K = trays_known (both_from (accepted_as o.one) (accepted_as o.two)) a b (length t) (length held) (passes_none _ T) in (
-          starts xs (accepted_as o.one) S.1.0 fine.0 w (omega (arith, K.1)) (omega (arith, K.0)) (omega (arith, K.2)),
+          starts xs (accepted_as o.one) S.1.0 fine.0 w (omega (arith, K.1)),
           (
-            starts ys (accepted_as o.two) S.1.1 fine.1 w (omega (arith, K.1)) (omega (arith, K.0)) (omega (arith, K.2)),
+            starts ys (accepted_as o.two) S.1.1 fine.1 w (omega (arith, K.1)),
             record { first = rw (start, end) K.3; second = rw (start, end) K.4 },
           ),
         )

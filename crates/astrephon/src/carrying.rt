@@ -32,7 +32,7 @@ pub fn gather(
 {
     let opening = openings::open_buffers(sheet, element, a, b, file.len(), packed.len())?;
     let window = Window { start: a, end: b };
-    moves::gather(&opening.numbers, opening.selection, window, file, packed);
+    moves::gather(&opening.subfile(), window, file, packed);
     Ok(())
 }
 
@@ -53,6 +53,6 @@ pub fn scatter(
 {
     let opening = openings::open_buffers(sheet, element, a, b, file.len(), packed.len())?;
     let window = Window { start: a, end: b };
-    moves::scatter(&opening.numbers, opening.selection, window, packed, file);
+    moves::scatter(&opening.subfile(), window, packed, file);
     Ok(())
 }

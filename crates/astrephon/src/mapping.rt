@@ -11,10 +11,11 @@ pub fn exact(sheet: &[u8], element: u64, x: FileOffset) -> Result<SubfileOffset,
     ensures { says subfile_value result ≡ exact_call sheet.now element x.0 }
 {
     let opening = openings::open_offset(sheet, element, x)?;
-    if !maps::belongs_to(&opening.numbers, opening.selection, x) {
+    let subfile = opening.subfile();
+    if !subfile.has(x) {
         return Err(Refusal::Foreign);
     }
-    Ok(maps::file_rank(&opening.numbers, opening.selection, x))
+    Ok(subfile.rank(x))
 }
 
 // Next mapping: the rank of any file offset from the displacement on, which is the subfile offset of the element's next byte.
@@ -23,7 +24,7 @@ pub fn next(sheet: &[u8], element: u64, x: FileOffset) -> Result<SubfileOffset, 
     ensures { says subfile_value result ≡ next_call sheet.now element x.0 }
 {
     let opening = openings::open_offset(sheet, element, x)?;
-    Ok(maps::file_rank(&opening.numbers, opening.selection, x))
+    Ok(opening.subfile().rank(x))
 }
 
 // Inverse mapping: the file offset of byte y of the element's subfile. Byte y has y bytes before it, so a y past the limit is told at once, and nothing wraps.
@@ -36,7 +37,7 @@ pub fn inverse(sheet: &[u8], element: u64, y: SubfileOffset) -> Result<FileOffse
     if crate::LIMIT <= byte {
         return Err(Refusal::Far);
     }
-    let place = maps::file_inverse(&opening.numbers, opening.selection, SubfileOffset(byte));
+    let place = opening.subfile().byte(SubfileOffset(byte));
     if crate::LIMIT <= place.0 {
         return Err(Refusal::Far);
     }
@@ -50,7 +51,8 @@ pub fn span(sheet: &[u8], element: u64, a: FileOffset, z: FileOffset) -> Result<
 {
     let opening = openings::open_element(sheet, element)?;
     openings::check_range(crate::LAST, opening.selection.from, a, z)?;
-    let first = maps::file_rank(&opening.numbers, opening.selection, a);
-    let last = maps::file_rank(&opening.numbers, opening.selection, z);
+    let subfile = opening.subfile();
+    let first = subfile.rank(a);
+    let last = subfile.rank(z);
     Ok(Interval { first, last })
 }

@@ -24,18 +24,11 @@ pub fn shared_runs(
         list.new ≡ outcome.later }
 {
     let pair = openings::open_pair(sheet1, sheet2, i, j, a, b)?;
-    let one = pair.one;
-    let two = pair.two;
+    let one = pair.one.subfile();
+    let two = pair.two.subfile();
     let window = Window { start: a, end: b };
     let room = list.len() as u64 / 4;
-    let runs = runs::list_shared(
-        &one.numbers,
-        one.selection,
-        &two.numbers,
-        two.selection,
-        window,
-        list,
-    );
+    let runs = runs::list_shared(&one, &two, window, list);
     if room < runs {
         return Err(Refusal::Room(runs));
     }

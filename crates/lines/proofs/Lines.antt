@@ -1,19 +1,15 @@
 -- The pieces of each line, put one behind the other, are the line; and the lines are the listing. Assumes nothing.
-use mathlib.Core.Path.{◌≡◌, sym, ap, ◌∙◌}
+use mathlib.Core.Path.{◌≡◌, sym, ap}
 use mathlib.Core.List.{List, ◌++◌}
 use Prim.Native.Nat.{ℕ, suc, ◌+◌, ◌*◌, ◌≤◌, ◌<◌}
 use native.Mathlib.Numerals.{add-one}
 use native.Mathlib.Omega.{arith}
-use lib.ListN.{length, take, get_or}
-use lib.Seq.{get_or-take, length-take-le}
-use Rattle.std.proofs.lemmas.List.{length-take}
 use borrow.Author.Tests.{eq-eqb, ne_eqb}
-use Rattle.families.specs.declared.Element.{Element}
 use Rattle.families.specs.declared.Layout.{Layout}
-use Rattle.families.specs.Forest.{size_of}
-use Rattle.families.specs.Decoded.{no_element, row_of}
-use Rattle.families.proofs.Rows.{row_element}
-use Rattle.families.proofs.Flats.{element_some, element_sound}
+use Rattle.families.specs.Forest.{Forest, size_of, Sound, RulesKept}
+use Rattle.families.specs.Decoded.{tree_of}
+use Rattle.families.specs.Flat.{total}
+use Rattle.families.proofs.Flats.{element_some, element_sound, element_ruled}
 use Rattle.std.specs.Prelude.{Ok, Err}
 use Rattle.sheets.specs.declared.Sheet.{Sheet}
 use Rattle.sheets.specs.declared.refusals.Refused.{Refused}
@@ -26,7 +22,7 @@ use Rattle.sheets.proofs.Accepted.{Accepted, accepted_law}
 use Rattle.words.specs.Texts.{word, decimal, Put}
 use Rattle.words.proofs.Puts.{put_none, put_within, ◌then◌}
 use Rattle.lines.specs.Listing.{layout_line, element_line, first_of, tree_line, element_lines, flag_word, refusal_line, accepted_lines, listing}
-use Rattle.lines.specs.Listable.{families_of, Listable, AllListable}
+use Rattle.lines.specs.Listable.{Listable}
 
 module _ {at e1 e2 e3 e4 : ℕ} {t0 t1 t2 t3 t4 : List ℕ} where
   pub put_layout : (d size n : ℕ) → Put (word "layout displacement " ++ decimal d) 40 at e1 t0 t1 → Put (word " size " ++ decimal size) 26 e1 e2 t1 t2
@@ -46,9 +42,20 @@ module _ {at e1 e2 e3 e4 : ℕ} {t0 t1 t2 t3 t4 : List ℕ} where
   put_element e size families first p1 p2 p3 p4 p5 = p1 then p2 then p3 then p4 then p5
 
 -- an element's line is that of its families
-pub put_tree : (el : Element) (row : List ℕ) (e size first : ℕ) {at r : ℕ} {before after : List ℕ} → Listable el row → size ≡ size_of (families_of el row)
-    → first ≡ first_of (families_of el row) → Put (element_line e size el.span first) 104 at r before after → Put (tree_line e (families_of el row)) 104 at r before after
-put_tree el row e size first ok is begins x = rw (is, begins, ok.spans) at x
+pub put_tree : (F : Forest) (e size families first : ℕ) {at r : ℕ} {before after : List ℕ} → size ≡ size_of F → families ≡ total F → first ≡ first_of F
+    → Put (element_line e size families first) 104 at r before after → Put (tree_line e F) 104 at r before after
+put_tree F e size families first is spans begins x = rw (is, spans, begins) at x
+
+-- .. which a listable layout lends
+module _ {t : Layout} {e : ℕ} (ok : Listable t) (h : e < t.elements) where
+  pub lent_ruled : RulesKept (tree_of 4 t e)
+  lent_ruled = element_ruled 4 65535 t ok.ok e h (omega arith)
+
+  pub lent_sound : Sound (tree_of 4 t e)
+  lent_sound = element_sound 4 65535 t ok.ok e h (omega arith)
+
+  pub lent_some : 0 < size_of (tree_of 4 t e)
+  lent_some = omega (arith, element_some 4 65535 t ok.ok e h)
 
 -- ---- the word of a flag
 module _ (flag : ℕ) {at r : ℕ} {before after : List ℕ} where
@@ -73,25 +80,17 @@ module _ (t : Layout) (at : ℕ) (before : List ℕ) where
   unfolding element_lines
   lined_none = record { put = put_none 0 at before }
 
-  module _ {row text : List ℕ} {end e : ℕ} (ok : AllListable t row) (L : Lined t at before text end e) where
-    module _ (turn : e < length (take t.elements t.element)) where
-      left : e < t.elements
-      left = omega (arith, turn, length-take t.elements t.element)
-
+  module _ {text : List ℕ} {end e : ℕ} (ok : Listable t) (L : Lined t at before text end e) where
+    module _ (left : e < t.elements) where
       pub lined_room : end + 104 ≤ at + 1664
-      lined_room = omega (arith, L.put.short, ok.room, left)
+      lined_room = omega (arith, L.put.short, ok.ok.room, left)
 
-      pub lined_more : {after : List ℕ} {r : ℕ} → Put (tree_line e (families_of (get_or (take t.elements t.element) e no_element) row)) 104 end r text after → Lined t at before after r (e + 1)
+      pub lined_more : {after : List ℕ} {r : ℕ} → Put (tree_line e (tree_of 4 t e)) 104 end r text after → Lined t at before after r (e + 1)
       unfolding element_lines
-      lined_more x =
-          record {
-            put = rw add-one (put_within (104 * suc e) (omega arith) (L.put then rw (get_or-take t.elements t.element e no_element left, row_element 4 t e row ok.laid) at x));
-          }
+      lined_more x = record { put = rw add-one (put_within (104 * suc e) (omega arith) (L.put then x)) }
 
-    pub lined_all : e ≡ length (take t.elements t.element) → t.elements ≤ length t.element → Put (element_lines t t.elements) 1664 at end before text
-    lined_all h long =
-        let all : e ≡ t.elements = h ∙ length-take-le t.elements t.element long in
-        rw all at (put_within 1664 (omega (arith, all, ok.room)) L.put)
+    pub lined_all : e ≡ t.elements → Put (element_lines t t.elements) 1664 at end before text
+    lined_all all = rw all at (put_within 1664 (omega (arith, all, ok.ok.room)) L.put)
 
 -- ---- a layout and its elements, and a refusal, are the listing
 pub put_accepted : (size : ℕ) (t : Layout) {e1 r : ℕ} {t0 t1 t2 : List ℕ} → Put (layout_line t.displacement size t.elements) 97 0 e1 t0 t1
@@ -116,17 +115,5 @@ module _ (s : Sheet) (xs : List ℕ) (is : reading_of (Ok s) ≡ read_sheet xs) 
   pub accepted : Accepted (reading_of (Ok s))
   accepted = rw is (accepted_law xs (ap (λ (r : Reading). r.number) (sym is)))
 
-  pub all_listable : (row : List ℕ) → row ≡ row_of s.layout.family → AllListable s.layout row
-  all_listable row laid =
-      let A = accepted in
-      record {
-        room = A.ok.room;
-        laid = laid;
-        each = λ e h.
-            let same = row_element 4 s.layout e row laid in
-            record {
-              sound = element_sound 4 65535 s.layout A.ok e h row laid (omega arith);
-              some = rw same (element_some 4 65535 s.layout A.ok e h);
-              spans = rw same (A.spans e h);
-            };
-      }
+  pub listable : Listable s.layout
+  listable = let A = accepted in record { ok = A.ok; spans = A.spans }

@@ -9,6 +9,7 @@ use lib.Seq.{take_all}
 use Rattle.counting.specs.Gather.{in_file, gathered, scattered}
 use Rattle.counting.proofs.Counts.{count_in_le}
 use Rattle.counting.proofs.Gathers.{tabulated_ext, tabulated_whole, gathered_none}
+use Rattle.families.specs.declared.Family.{Family}
 use Rattle.maps.specs.declared.Selection.{Selection}
 use Rattle.maps.specs.declared.window.Window.{Window}
 use Rattle.maps.specs.Selected.{belongs}
@@ -16,8 +17,8 @@ use Rattle.runs.specs.Walking.{SideOk}
 use Rattle.moves.specs.Walks.{Buffers, Carries}
 
 -- ---- a window that is not empty
-pub carries_of : {s : Selection} {row : List ℕ} {window : Window} {n m k : ℕ} → SideOk s row n window.start.0
-    → Buffers (belongs s row) window m k → window.start.0 < window.end.0 → Carries s row window m k
+pub carries_of : {s : Selection} {families : List Family} {window : Window} {n m k : ℕ} → SideOk s families n window.start.0
+    → Buffers (belongs s families) window m k → window.start.0 < window.end.0 → Carries s families window m k
 carries_of side buffers some = record { after = side.after; some = some; buffers = buffers }
 
 -- ---- an empty window

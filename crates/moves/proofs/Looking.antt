@@ -12,6 +12,7 @@ use Rattle.counting.proofs.Cases.{lt_or_le}
 use Rattle.counting.proofs.Counts.{count_zero}
 use Rattle.counting.proofs.Periods.{owns_none, owns_at, owns_periodic}
 use Rattle.families.specs.Forest.{has}
+use Rattle.families.specs.declared.Family.{Family}
 use Rattle.maps.specs.declared.Selection.{Selection}
 use Rattle.maps.specs.Selected.{families_of, belongs, Byte, SelectionOk}
 use Rattle.maps.proofs.Mapped.{period_some}
@@ -102,16 +103,16 @@ module _ (marks : List ℕ) {period first : ℕ} (F : First (marked marks) perio
   marks_filled A = A.each 1 (ap (marked marks) (let e : period + first - period ≡ first = omega arith in e) ∙ F.picked)
 
 -- ---- `look_ahead`: the marks of a selection stand for it
-module _ {s : Selection} {row : List ℕ} (ok : SelectionOk s row) (x : ℕ) (B : Byte (belongs s row) 0 x) where
+module _ {s : Selection} {families : List Family} (ok : SelectionOk s families) (x : ℕ) (B : Byte (belongs s families) 0 x) where
   pub look_from : s.from ≤ x
   unfolding belongs
-  look_from = byte_from s.from s.period (has (families_of s row)) x B
+  look_from = byte_from s.from s.period (has (families_of s families)) x B
 
   pub look_near : x - s.from < s.period
   unfolding belongs
-  look_near = (byte_first s.from s.period (has (families_of s row)) x B (period_some ok)).inside
+  look_near = (byte_first s.from s.period (has (families_of s families)) x B (period_some ok)).inside
 
-  module _ {n : ℕ} (fits : FitsTable s row n) (marks : List ℕ) (is : marks ≡ marks_of (families_of s row) n) where
+  module _ {n : ℕ} (fits : FitsTable s families n) (marks : List ℕ) (is : marks ≡ marks_of (families_of s families) n) where
     look_first : First (marked marks) s.period (x - s.from)
     unfolding tabled
     look_first =
@@ -129,5 +130,5 @@ module _ {s : Selection} {row : List ℕ} (ok : SelectionOk s row) (x : ℕ) (B 
     }
 
     pub look_strides : {strides : List Stride} → AllFilled marks s.period (nexts_by s.period (x - s.from)) strides
-        → Strides s (belongs s row) strides
+        → Strides s (belongs s families) strides
     look_strides A = rw (table_is ok fits marks is) at (strides_tabled (marks_filled marks look_first A))

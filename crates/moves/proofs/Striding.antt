@@ -10,6 +10,7 @@ use lib.ListN.{length}
 use Rattle.counting.specs.Count.{count_in}
 use Rattle.counting.proofs.Cases.{lt_or_le}
 use Rattle.counting.proofs.Counts.{count_all, count_in_split, count_in_le}
+use Rattle.families.specs.declared.Family.{Family}
 use Rattle.maps.specs.declared.Selection.{Selection}
 use Rattle.maps.specs.declared.window.Window.{Window}
 use Rattle.maps.specs.Selected.{belongs}
@@ -120,12 +121,12 @@ module _ {s : Selection} {p : ℕ → Bool} {strides : List Stride} {a n : ℕ} 
         (lt_or_le len run)
 
 -- ---- what the code asks on its way over a window
-module _ {s : Selection} {row : List ℕ} {window : Window} {n k : ℕ} (C : Carries s row window n k) where
+module _ {s : Selection} {families : List Family} {window : Window} {n k : ℕ} (C : Carries s families window n k) where
   pub start_near : window.start.0 < 2 ^ 40
   start_near = omega (arith, C.some, window.ok.near)
 
-  module _ {strides : List Stride} {w : Walk} (T : Strides s (belongs s row) strides)
-      (W : Stands s (belongs s row) window.start.0 (window.end.0 - window.start.0) w) (inside : w.at < n) where
+  module _ {strides : List Stride} {w : Walk} (T : Strides s (belongs s families) strides)
+      (W : Stands s (belongs s families) window.start.0 (window.end.0 - window.start.0) w) (inside : w.at < n) where
     before : w.at < window.end.0 - window.start.0
     before = omega (arith, C.buffers.file)
 

@@ -1,6 +1,7 @@
 -- Where a walk over the selected bytes of a window stands. Assumes nothing: these are definitions.
 use Rattle.std.specs.Prelude.{◌≡◌, Bool, true, false, List, ℕ, ◌+◌, ◌-◌, ◌%◌, ◌≤◌, ◌<◌}
 use Rattle.counting.specs.Count.{count_in}
+use Rattle.families.specs.declared.Family.{Family}
 use Rattle.maps.specs.declared.Selection.{Selection}
 use Rattle.maps.specs.declared.window.Window.{Window}
 use Rattle.maps.specs.Selected.{belongs}
@@ -25,7 +26,7 @@ pub record Buffers (p : ℕ → Bool) (window : Window) (n k : ℕ) : Type 0 whe
   pub packed : k ≡ count_in p window.start.0 (window.end.0 - window.start.0)
 
 -- what the code asks of a window that is not empty, and of its buffers
-pub record Carries (s : Selection) (row : List ℕ) (window : Window) (n k : ℕ) : Type 0 where
+pub record Carries (s : Selection) (families : List Family) (window : Window) (n k : ℕ) : Type 0 where
   pub after : s.from ≤ window.start.0
   pub some : window.start.0 < window.end.0
-  pub buffers : Buffers (belongs s row) window n k
+  pub buffers : Buffers (belongs s families) window n k

@@ -48,9 +48,9 @@ pub fn fill_strides(owners: &[u8], period: usize, nexts: &mut [usize], strides: 
 // The table of a selection, by way of a table of N zeros that is marked with one period of it.
 pub fn look_ahead<const N: usize>(subfile: &Subfile, strides: &mut [Stride])
     requires small { N ≤ 65536 }
-    requires fits { FitsTable subfile.now.selection subfile.now.numbers.now N }
+    requires fits { FitsTable subfile.now.selection subfile.now.families.now N }
     requires room { Room subfile.now.selection.period strides.old }
-    ensures { Strides subfile.now.selection (belongs subfile.now.selection subfile.now.numbers.now) strides.new }
+    ensures { Strides subfile.now.selection (belongs subfile.now.selection subfile.now.families.now) strides.new }
 {
     let s = subfile.selection;
     let from = u64::from(s.from);

@@ -12,9 +12,9 @@ use maps::{Subfile, Window};
 
 // Packs the selected bytes of a window, run by run.
 pub fn gather_runs(track: &Track, window: Window, file: &[u8], packed: &mut [u8])
-    requires { Carries track.now.subfile.selection track.now.subfile.numbers.now window (length file.now) (length packed.old) }
+    requires { Carries track.now.subfile.selection track.now.subfile.families.now window (length file.now) (length packed.old) }
     ensures { let a = window.start.0 in
-        packed.new ≡ gathered (belongs track.now.subfile.selection track.now.subfile.numbers.now) a (window.end.0 - a) (in_file a file.now) }
+        packed.new ≡ gathered (belongs track.now.subfile.selection track.now.subfile.families.now) a (window.end.0 - a) (in_file a file.now) }
 {
     let bytes = file.len();
     let mut walk = walks::begin(&track.subfile, window.start);
@@ -34,10 +34,10 @@ pub fn gather_by_table<const N: usize>(
     packed: &mut [u8],
 )
     requires small { N ≤ 65536 }
-    requires fits { FitsTable subfile.now.selection subfile.now.numbers.now N }
-    requires carries { Carries subfile.now.selection subfile.now.numbers.now window (length file.now) (length packed.old) }
+    requires fits { FitsTable subfile.now.selection subfile.now.families.now N }
+    requires carries { Carries subfile.now.selection subfile.now.families.now window (length file.now) (length packed.old) }
     ensures { let a = window.start.0 in
-        packed.new ≡ gathered (belongs subfile.now.selection subfile.now.numbers.now) a (window.end.0 - a) (in_file a file.now) }
+        packed.new ≡ gathered (belongs subfile.now.selection subfile.now.families.now) a (window.end.0 - a) (in_file a file.now) }
 {
     let mut strides = [NO_STRIDE; N];
     ahead::look_ahead::<N>(subfile, &mut strides);
@@ -50,10 +50,10 @@ pub fn gather_by_table<const N: usize>(
 
 // Packs the selected bytes of a window. An empty one has none.
 pub fn gather(subfile: &Subfile, window: Window, file: &[u8], packed: &mut [u8])
-    requires side { SideOk subfile.now.selection subfile.now.numbers.now 65536 window.start.0 }
-    requires buffers { Buffers (belongs subfile.now.selection subfile.now.numbers.now) window (length file.now) (length packed.old) }
+    requires side { SideOk subfile.now.selection subfile.now.families.now 65536 window.start.0 }
+    requires buffers { Buffers (belongs subfile.now.selection subfile.now.families.now) window (length file.now) (length packed.old) }
     ensures { let a = window.start.0 in
-        packed.new ≡ gathered (belongs subfile.now.selection subfile.now.numbers.now) a (window.end.0 - a) (in_file a file.now) }
+        packed.new ≡ gathered (belongs subfile.now.selection subfile.now.families.now) a (window.end.0 - a) (in_file a file.now) }
 {
     if window.end.0 <= window.start.0 {
         return;

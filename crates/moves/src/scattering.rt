@@ -12,9 +12,9 @@ use maps::{Subfile, Window};
 
 // Puts packed bytes back to a window, run by run: the walk of `gather_runs`. One function for both would say no less, since each writes the other's buffer.
 pub fn scatter_runs(track: &Track, window: Window, packed: &[u8], file: &mut [u8])
-    requires { Carries track.now.subfile.selection track.now.subfile.numbers.now window (length file.old) (length packed.now) }
+    requires { Carries track.now.subfile.selection track.now.subfile.families.now window (length file.old) (length packed.now) }
     ensures { let a = window.start.0 in
-        file.new ≡ scattered (belongs track.now.subfile.selection track.now.subfile.numbers.now) a (window.end.0 - a) packed.now file.old }
+        file.new ≡ scattered (belongs track.now.subfile.selection track.now.subfile.families.now) a (window.end.0 - a) packed.now file.old }
 {
     let bytes = file.len();
     let mut walk = walks::begin(&track.subfile, window.start);
@@ -34,10 +34,10 @@ pub fn scatter_by_table<const N: usize>(
     file: &mut [u8],
 )
     requires small { N ≤ 65536 }
-    requires fits { FitsTable subfile.now.selection subfile.now.numbers.now N }
-    requires carries { Carries subfile.now.selection subfile.now.numbers.now window (length file.old) (length packed.now) }
+    requires fits { FitsTable subfile.now.selection subfile.now.families.now N }
+    requires carries { Carries subfile.now.selection subfile.now.families.now window (length file.old) (length packed.now) }
     ensures { let a = window.start.0 in
-        file.new ≡ scattered (belongs subfile.now.selection subfile.now.numbers.now) a (window.end.0 - a) packed.now file.old }
+        file.new ≡ scattered (belongs subfile.now.selection subfile.now.families.now) a (window.end.0 - a) packed.now file.old }
 {
     let mut strides = [NO_STRIDE; N];
     ahead::look_ahead::<N>(subfile, &mut strides);
@@ -50,10 +50,10 @@ pub fn scatter_by_table<const N: usize>(
 
 // Puts packed bytes back to a window. An empty one has none.
 pub fn scatter(subfile: &Subfile, window: Window, packed: &[u8], file: &mut [u8])
-    requires side { SideOk subfile.now.selection subfile.now.numbers.now 65536 window.start.0 }
-    requires buffers { Buffers (belongs subfile.now.selection subfile.now.numbers.now) window (length file.old) (length packed.now) }
+    requires side { SideOk subfile.now.selection subfile.now.families.now 65536 window.start.0 }
+    requires buffers { Buffers (belongs subfile.now.selection subfile.now.families.now) window (length file.old) (length packed.now) }
     ensures { let a = window.start.0 in
-        file.new ≡ scattered (belongs subfile.now.selection subfile.now.numbers.now) a (window.end.0 - a) packed.now file.old }
+        file.new ≡ scattered (belongs subfile.now.selection subfile.now.families.now) a (window.end.0 - a) packed.now file.old }
 {
     if window.end.0 <= window.start.0 {
         return;

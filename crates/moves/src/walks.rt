@@ -20,7 +20,7 @@ pub struct Walk {
 pub fn begin(subfile: &Subfile, start: FileOffset) -> Walk
     requires after { subfile.now.selection.from ≤ start.0 }
     requires near { start.0 < 2 ^ 40 }
-    ensures { Begun subfile.now.selection (belongs subfile.now.selection subfile.now.numbers.now) start.0 result }
+    ensures { Begun subfile.now.selection (belongs subfile.now.selection subfile.now.families.now) start.0 result }
 {
     let s = subfile.selection;
     let from = u64::from(s.from);

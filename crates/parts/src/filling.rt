@@ -20,10 +20,10 @@ pub fn fill_part(
     tray: &[u8],
     part: &mut [u8],
 )
-    requires carries { Carries track.now.subfile.selection track.now.subfile.numbers.now window (length tray.now) (length part.old) }
+    requires carries { Carries track.now.subfile.selection track.now.subfile.families.now window (length tray.now) (length part.old) }
     requires sources { SourcesOk sources.now window.start.0 (bytes_of window) }
     ensures { let L = elements_by sources.now.cycle sources.now.owners.now in let a = window.start.0 in let n = bytes_of window in
-        part.new ≡ renewed (belongs track.now.subfile.selection track.now.subfile.numbers.now) a n (takes L only) (in_tray L a n tray.now) part.old }
+        part.new ≡ renewed (belongs track.now.subfile.selection track.now.subfile.families.now) a n (takes L only) (in_tray L a n tray.now) part.old }
 {
     let bytes = tray.len();
     let mut walk = moves::begin(&track.subfile, window.start);

@@ -2,7 +2,7 @@
 use families::{SubfileOffset, TrayPlace};
 
 // Where an element's part of a tray starts and how long it is, how many of its bytes lie before the window, and how many a period has.
-#[derive(Clone, Copy)]
+#[derive(Clone, Copy, Debug, PartialEq, Eq)]
 pub struct Share {
     pub start: TrayPlace,
     pub count: u64,

@@ -12,7 +12,6 @@ use Rattle.sheets.specs.Steps.{Refuses}
 
 -- no fault has number 0, which says that a sheet is accepted
 pub number_some : (f : Fault) → 1 ≤ fault_number f
-unfolding fault_number
 number_some fault.Short = omega arith
 number_some fault.Kind = omega arith
 number_some fault.Length = omega arith
@@ -28,7 +27,7 @@ number_some fault.Overlap = omega arith
 
 -- only number 11 carries a flag
 pub no_flag : (f : Fault) → one_of (fault_number f) record_numbers ≡ true → fault_flag f ≡ NO_FLAG
-unfolding fault_number fault_flag one_of
+unfolding one_of
 no_flag fault.Short e = refl
 no_flag fault.Kind e = refl
 no_flag fault.Length e = refl

@@ -4,20 +4,20 @@ use mathlib.Core.List.{List, [], ◌∷◌, ◌++◌}
 use Prim.Native.Nat.{ℕ, suc, ◌+◌, ◌-◌, ◌≤◌}
 use native.Mathlib.Nat.{zero-add}
 use native.Mathlib.Omega.{arith}
-use lib.ListN.{length, replicate, length-append, length-replicate}
+use lib.ListN.{length, replicate, length-replicate}
 use lib.Seq.{sets, sets-eq}
 use mathlib.Core.Bool.{true≢false}
 use lib.Dec.{eqb, ltb}
 use Rattle.std.specs.Result.{is_ok}
+use Rattle.std.proofs.lemmas.List.{drop-replicate}
 use Rattle.counting.proofs.Cases.{by_test}
-use Rattle.counting.specs.Gather.{tabulated}
+use Rattle.families.specs.declared.Family.{Family}
 use Rattle.families.specs.declared.Layout.{Layout}
 use Rattle.families.specs.Forest.{Forest, nil, node, end_of}
-use Rattle.families.specs.Decoded.{no_element, no_family, InUse, empty_row, family_at, row_of, trees_of, LayoutOk}
+use Rattle.families.specs.Decoded.{no_element, no_family, trees_of, LayoutOk}
 use Rattle.families.specs.Flat.{width, totals, flats, elements_at, layout_of, All}
 use Rattle.families.proofs.Forests.{wf_ended, end_le}
-use Rattle.families.proofs.Rows.{row_at, row_back, drop_replicate, row_padded}
-use Rattle.families.proofs.Flats.{ElementOk, length_flats, length_elements, trees_back, layout_used, layout_ok}
+use Rattle.families.proofs.Flats.{ElementOk, length_elements, trees_back, layout_ok}
 use Rattle.sheets.specs.declared.elements.Progress.{Progress}
 use Rattle.std.specs.Prelude.{Result, Ok, Err}
 use Rattle.sheets.specs.declared.refusals.Refused.{Refused}
@@ -38,37 +38,21 @@ use Rattle.sheets.proofs.Answered.{no_flag}
 padded : {A : Type 0} (n : ℕ) (a : A) (vs : List A) (k : ℕ) → length vs ≡ k → k ≤ n → sets (replicate n a) 0 vs ≡ vs ++ replicate (n - k) a
 padded {A = A} n a vs k e h =
     sets-eq vs (replicate n a) 0 (omega (arith, length-replicate n a))
-    ∙ ap (λ (l : List A). vs ++ l) (drop_replicate (0 + length vs) n a (omega arith) ∙ ap (λ (j : ℕ). replicate j a) {x = n - (0 + length vs)} {y = n - k} (omega arith))
+    ∙ ap (λ (l : List A). vs ++ l) (drop-replicate (0 + length vs) n a ∙ ap (λ (j : ℕ). replicate j a) {x = n - (0 + length vs)} {y = n - k} (omega arith))
 
 -- ---- THE LAYOUT: what was read, decoded, is the layout of its trees
-module _ (Fs : List Forest) (few : length Fs ≤ 16) (room : totals Fs ≤ 256) where
-  pub row_is : (d : ℕ) (row : List ℕ) → WrittenAll (got Fs) empty_row row → row ≡ row_of (layout_of d Fs).family
-  unfolding WrittenAll layout_of
-  row_is d row w = row_padded 256 (totals Fs) (flats Fs) row room w
-
-  families_back : tabulated 0 256 (family_at (row_of (flats Fs ++ replicate (256 - totals Fs) no_family))) ≡ flats Fs ++ replicate (256 - totals Fs) no_family
-  families_back =
-      let all = flats Fs ++ replicate (256 - totals Fs) no_family in
-      let long : length all ≡ 256 = length-append (flats Fs) (replicate (256 - totals Fs) no_family) ∙ omega (arith, length_flats Fs, length-replicate (256 - totals Fs) no_family) in
-      ap (λ (n : ℕ). tabulated 0 n (family_at (row_of all))) (sym long) ∙ row_back all
-
-  -- behind its families the row holds none
-  pub row_used : (p : Progress) (row : List ℕ) → Progressed (got Fs) start (Ok p) → WrittenAll (got Fs) empty_row row → InUse p.families (family_at row)
-  unfolding Progressed start
-  row_used p row e w =
-      let U = layout_used 0 Fs room in
-      rw (e, zero-add (totals Fs), row_is 0 row w) (record { most = U.most; none = λ i h. row_at (layout_of 0 Fs).family i ∙ U.none i h })
-
-  pub layout_is : (d : ℕ) (p : Progress) (row : List ℕ) → Progressed (got Fs) start (Ok p) → WrittenAll (got Fs) empty_row row → layout_from d p row ≡ layout_of d Fs
+module _ (Fs : List Forest) (few : length Fs ≤ 16) where
+  pub layout_is : (d : ℕ) (p : Progress) (fs : List Family) → Progressed (got Fs) start (Ok p) → WrittenAll (got Fs) (replicate 256 no_family) fs
+      → layout_from d p fs ≡ layout_of d Fs
   unfolding Progressed start layout_from layout_of WrittenAll
-  layout_is d p row e w =
-      rw (e, row_padded 256 (totals Fs) (flats Fs) row room w)
+  layout_is d p fs e w =
+      rw (e, w)
       (λ i. record {
         displacement = d;
         elements = zero-add (length Fs) i;
         families = zero-add (totals Fs) i;
         element = padded 16 no_element (elements_at 0 Fs) (length Fs) (length_elements 0 Fs) few i;
-        family = families_back i;
+        family = flats Fs ++ drop-replicate (totals Fs) 256 no_family i;
       })
 
 -- ---- where the elements end: the rules hold with that bound

@@ -4,7 +4,7 @@ use mathlib.Core.List.{List}
 use Prim.Native.Nat.{ℕ, zero, suc, ◌+◌, ◌-◌, ◌*◌, ◌≤◌, ◌<◌, max}
 use native.Mathlib.Omega.{arith}
 use Rattle.families.specs.Forest.{Forest, nil, end_of}
-use Rattle.families.specs.Decoded.{row_of}
+use Rattle.families.specs.declared.Family.{Family}
 use Rattle.families.specs.Flat.{total, flat}
 use Rattle.sheets.specs.declared.records.Limits.{Limits}
 use Rattle.sheets.specs.declared.trees.Step.{Step}
@@ -80,16 +80,16 @@ step_refused at from r (got F) e = absurd e
 step_refused at from r (refused k p) e = ap₂ refused (sym e.0) (sym e.1)
 
 -- a refusal is handed on
-pub refused_on : (at from : ℕ) (R : Read Forest) (r : Refused) → R ≡ refused (fault_number r.fault) r.place → (before after : List ℕ)
+pub refused_on : (at from : ℕ) (R : Read Forest) (r : Refused) → R ≡ refused (fault_number r.fault) r.place → (before after : List Family)
     → Stepped at from R (Err r) × Written R before after
 unfolding Written
 refused_on at from R r e before after = rw e ((refl, refl), tt)
 
 -- no sibling to read
-pub none_on : (xs : List ℕ) (levels : ℕ) (m : Limits) (count at : ℕ) (row : List ℕ) → count ≡ 0
-    → Stepped at m.from (forest_from xs levels m count at) (Ok (record { place = at; end = m.from })) × Written (forest_from xs levels m count at) row row
-unfolding Written total flat end_of row_of
-none_on xs levels m count at row e =
+pub none_on : (xs : List ℕ) (levels : ℕ) (m : Limits) (count at : ℕ) (fs : List Family) → count ≡ 0
+    → Stepped at m.from (forest_from xs levels m count at) (Ok (record { place = at; end = m.from })) × Written (forest_from xs levels m count at) fs fs
+unfolding Written total flat end_of
+none_on xs levels m count at fs e =
     let place : at ≡ at + 22 * 0 = omega arith in
     let end : m.from ≡ max m.from 0 = omega arith in
     rw (e, none_read xs levels m at) (ap₂ (λ (a b : ℕ). record { place = a; end = b }) place end, refl)

@@ -6,8 +6,8 @@ use native.Mathlib.Numerals.{add-one}
 use native.Mathlib.Omega.{arith}
 use lib.ListN.{length, take, drop}
 use Rattle.families.specs.declared.Element.{Element}
+use Rattle.families.specs.declared.Family.{Family}
 use Rattle.families.specs.Forest.{Forest, end_of}
-use Rattle.families.specs.Decoded.{row_of}
 use Rattle.families.specs.Flat.{width, total, flat, totals, flats, elements_at}
 use Rattle.families.proofs.Flats.{length_flat}
 use Rattle.sheets.specs.declared.trees.Step.{Step}
@@ -23,7 +23,7 @@ use Rattle.sheets.specs.Steps.{Checked, Stepped, Written, ends, with_element, Pr
 use Rattle.sheets.proofs.Faults.{element_taken}
 use Rattle.sheets.proofs.Shapes.{forest_shape, element_inside}
 use Rattle.sheets.proofs.Answered.{unless_refuses}
-use Rattle.sheets.proofs.Lent.{rows_joined}
+use Rattle.sheets.proofs.Lent.{families_joined}
 use Rattle.sheets.proofs.Descent.{first_refused, first_got, step_got}
 
 -- ---- one step of the reader
@@ -63,14 +63,14 @@ same_progress : {a a' b b' c c' d d' : ℕ} {l l' : List Element} → a ≡ a' �
     → ◌≡◌ {A = Progress} (record { place = a; end = b; elements = c; families = d; element = l }) (record { place = a'; end = b'; elements = c'; families = d'; element = l' })
 same_progress p q r s t = λ i. record { place = p i; end = q i; elements = r i; families = s i; element = t i }
 
-pub refused_on_all : (R : Read (List Forest)) (p : Progress) (r : Refused) → R ≡ refused (fault_number r.fault) r.place → (before after : List ℕ)
+pub refused_on_all : (R : Read (List Forest)) (p : Progress) (r : Refused) → R ≡ refused (fault_number r.fault) r.place → (before after : List Family)
     → Progressed R p (Err r) × WrittenAll R before after
 unfolding Progressed WrittenAll
 refused_on_all R p r e before after = rw e ((refl, refl), tt)
 
-pub progress_none : (xs : List ℕ) (room count at : ℕ) → count ≡ 0 → (p : Progress) (row : List ℕ) → Progressed (elements_from xs room count at) p (Ok p) × WrittenAll (elements_from xs room count at) row row
-unfolding elements_from Progressed WrittenAll totals flats ends elements_at row_of
-progress_none xs room count at e p row = rw e (same p, refl)
+pub progress_none : (xs : List ℕ) (room count at : ℕ) → count ≡ 0 → (p : Progress) (fs : List Family) → Progressed (elements_from xs room count at) p (Ok p) × WrittenAll (elements_from xs room count at) fs fs
+unfolding elements_from Progressed WrittenAll totals flats ends elements_at
+progress_none xs room count at e p fs = rw e (same p, refl)
   where
     same : (p : Progress) → p ≡ record { place = p.place + (6 * 0 + 22 * 0); end = max p.end 0; elements = p.elements + 0; families = p.families + 0; element = p.element }
     same p = same_progress (omega arith) (omega arith) (omega arith) (omega arith) refl
@@ -126,16 +126,17 @@ module _ (xs : List ℕ) (room count at : ℕ) (r : Step) (T : ElementTaken xs r
   rest_progress p after tops span e f g q =
       rw T.all (progress_over p after rest e (rw (rest_read span g, f ∙ sym T.wide, g ∙ T.span) at q))
 
-  row_over : (row after ys : List ℕ) (next n : ℕ) (R : Read (List Forest)) → next ≡ 6 * total T.families → n ≡ length after - next
-      → after ≡ row_of (flat T.families) ++ drop (6 * total T.families) row → WrittenAll R (take n (drop next after)) ys
-      → WrittenAll (and_then R (λ Fs. got (T.families ∷ Fs))) row (take next after ++ (ys ++ drop n (drop next after)))
+  families_over : (before after behind : List Family) (span n : ℕ) (R : Read (List Forest)) → span ≡ total T.families → n ≡ length after - span
+      → after ≡ flat T.families ++ drop (total T.families) before → WrittenAll R (take n (drop span after)) behind
+      → WrittenAll (and_then R (λ Fs. got (T.families ∷ Fs))) before (take span after ++ (behind ++ drop n (drop span after)))
   unfolding WrittenAll and_then totals flats
-  row_over row after ys next n (refused number place) a b e w = tt
-  row_over row after ys next n (got Fs) a b e w = rows_joined (flat T.families) (flats Fs) (total T.families) (totals Fs) row after ys next n (length_flat T.families) a b e w
+  families_over before after behind span n (refused number place) a b e w = tt
+  families_over before after behind span n (got Fs) a b e w =
+      families_joined (flat T.families) (flats Fs) span (totals Fs) before after behind n (length_flat T.families ∙ sym a) b (rw a e) w ∙ rw a refl
 
-  pub rest_written_all : (row after ys : List ℕ) (span next n : ℕ) → span ≡ (r.place - at - 6) / 22 → next ≡ 6 * span → n ≡ length after - next → Written (families_of xs room at) row after
-      → WrittenAll (elements_from xs (room - span) (count - 1) r.place) (take n (drop next after)) ys
-      → WrittenAll (elements_from xs room count at) row (take next after ++ (ys ++ drop n (drop next after)))
+  pub rest_written_all : (before after behind : List Family) (span n : ℕ) → span ≡ (r.place - at - 6) / 22 → n ≡ length after - span → Written (families_of xs room at) before after
+      → WrittenAll (elements_from xs (room - span) (count - 1) r.place) (take n (drop span after)) behind
+      → WrittenAll (elements_from xs room count at) before (take span after ++ (behind ++ drop n (drop span after)))
   unfolding Written
-  rest_written_all row after ys span next n g a b first w =
-      rw T.all (row_over row after ys next n rest (a ∙ ap (λ (k : ℕ). 6 * k) (g ∙ T.span)) b (rw T.is at first) (rw (rest_read span g) at w))
+  rest_written_all before after behind span n g b first w =
+      rw T.all (families_over before after behind span n rest (g ∙ T.span) b (rw T.is at first) (rw (rest_read span g) at w))

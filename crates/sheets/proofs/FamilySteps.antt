@@ -1,17 +1,15 @@
--- What `read_family` knows on its way: a record without a fault, the children that were read, and the row with both. Assumes nothing.
-use mathlib.Core.Path.{◌≡◌, sym, ap, ap₂, ◌∙◌}
-use mathlib.Core.List.{List, [], ◌∷◌, ◌++◌, append-nil, append_assoc}
+-- What `read_family` knows on its way: a record without a fault, the children that were read, and the room with both. Assumes nothing.
+use mathlib.Core.Path.{◌≡◌, refl, ap₂, ◌∙◌}
+use mathlib.Core.List.{List, [], ◌∷◌, ◌++◌, append-nil}
 use mathlib.Core.Logic.{⊎_elim}
 use Prim.Native.Nat.{ℕ, suc, ◌+◌, ◌-◌, ◌*◌, ◌/◌, ◌≤◌, ◌<◌, max}
 use native.Mathlib.Omega.{arith}
-use lib.ListN.{length, take, drop}
-use lib.Seq.{drop_at, drop-drop, length-take-le}
+use lib.ListN.{length, take, drop, set}
+use lib.Seq.{drop-drop}
 use Rattle.families.specs.declared.Family.{Family}
 use Rattle.families.specs.Forest.{Forest, nil, node, end_of}
-use Rattle.families.specs.Decoded.{row_of}
 use Rattle.families.specs.Flat.{width, total, flat}
 use Rattle.counting.proofs.Cases.{lt_or_le}
-use Rattle.families.proofs.Rows.{row_append}
 use Rattle.sheets.specs.declared.records.Limits.{Limits}
 use Rattle.sheets.specs.declared.trees.Step.{Step}
 use Rattle.std.specs.Prelude.{Ok}
@@ -24,20 +22,23 @@ use Rattle.sheets.proofs.Shapes.{node_at, forest_shape, family_inside}
 use Rattle.sheets.proofs.Lent.{part_lent, part_back}
 use Rattle.sheets.proofs.Descent.{children, none_after, children_got, step_got}
 
--- ---- the row
--- a family with its children in front of the row
+-- ---- a family with its children in front of the room
 abbrev pub spanned : Family → (span : ℕ) → Family
 spanned f k = record { l = f.l; r = f.r; s = f.s; n = f.n; children = f.children; span = k }
 
-row_with_kids : (f : Family) (kids : Forest) (row : List ℕ)
+family_with_kids : (f : Family) (kids : Forest) (fs : List Family)
     → let g : Family = record { l = f.l; r = f.r; s = f.s; n = f.n; children = width kids; span = suc (total kids) } in
     let F = node f.l f.r f.s f.n kids nil in
-    row_of (g ∷ []) ++ (row_of (flat kids) ++ drop (6 * total kids) (drop 6 row)) ≡ row_of (flat F) ++ drop (6 * total F) row
+    g ∷ (flat kids ++ drop (total kids) (drop 1 fs)) ≡ flat F ++ drop (total F) fs
 unfolding flat total
-row_with_kids f kids row =
-    let g : Family = record { l = f.l; r = f.r; s = f.s; n = f.n; children = width kids; span = suc (total kids) } in
-    let size : 6 + 6 * total kids ≡ 6 * suc (total kids + 0) = omega arith in
-    rw (append-nil (flat kids), row_append (g ∷ []) (flat kids), drop-drop (6 * total kids) 6 row, size) (sym (append_assoc (row_of (g ∷ [])) (row_of (flat kids)) (drop (6 * suc (total kids + 0)) row)))
+family_with_kids f kids fs =
+    let size : 1 + total kids ≡ suc (total kids + 0) = omega arith in
+    rw (append-nil (flat kids), drop-drop (total kids) 1 fs, size) refl
+
+-- the first place of the room, behind which the children were written
+first_set : (fs gs : List Family) (f : Family) → 1 ≤ length fs → set (take 1 fs ++ gs) 0 f ≡ f ∷ gs
+first_set [] gs f h = absurd (omega arith)
+first_set (g ∷ fs) gs f h = refl
 
 -- ---- the records' length tells how many families were read
 pub families_read : (at k : ℕ) → (at + 22 * k - at) / 22 ≡ k
@@ -78,13 +79,11 @@ module _ (xs : List ℕ) (levels : ℕ) (m : Limits) (at : ℕ) (deep : 1 ≤ le
         let q : last_of f + 1 ≡ max m.from (max (last_of f + 1) 0) = omega (arith, taken.fits.after, taken.fits.forward) in
         rw family_got (ap₂ (λ (a b : ℕ). record { place = a; end = b }) p q)
 
-    -- the children's numbers, written behind room for six, and then the family's own
-    pub family_written : (row ys six : List ℕ) (n : ℕ) (g : Family) → 6 ≤ length row → n ≡ length row - 6 → Written (children xs (levels - 1) m at) (take n (drop 6 row)) ys
-        → six ≡ row_of (g ∷ []) → g ≡ spanned (family_record xs at) (suc (total K.kids))
-        → Written (forest_from xs levels m 1 at) row (six ++ drop 6 (take 6 row ++ (ys ++ drop n (drop 6 row))))
+    -- the children, written behind the first place, and then the family itself
+    pub family_written : (before kids : List Family) (n : ℕ) (g : Family) → 1 ≤ length before → n ≡ length before - 1
+        → Written (children xs (levels - 1) m at) (take n (drop 1 before)) kids → g ≡ spanned (family_record xs at) (suc (total K.kids))
+        → Written (forest_from xs levels m 1 at) before (set (take 1 before ++ (kids ++ drop n (drop 1 before))) 0 g)
     unfolding Written
-    family_written row ys six n g room e w s q =
-        let kids = K.kids in
-        let was : ys ≡ row_of (flat kids) ++ drop (6 * total kids) (drop 6 row) = rw (K.is, part_lent 6 row n e) at w in
-        let front : six ≡ row_of (spanned (family_record xs at) (suc (total kids)) ∷ []) = s ∙ ap (λ (f : Family). row_of (f ∷ [])) q in
-        rw (family_got, part_back 6 row ys n e, drop_at (take 6 row) ys 6 (length-take-le 6 row room), front, was, ← K.wide) (row_with_kids (family_record xs at) kids row)
+    family_written before kids n g room e w q =
+        let was : kids ≡ flat K.kids ++ drop (total K.kids) (drop 1 before) = rw (K.is, part_lent 1 before n e) at w in
+        rw (family_got, part_back 1 before kids n e, first_set before kids g room, was, q, ← K.wide) (family_with_kids (family_record xs at) K.kids before)

@@ -5,7 +5,7 @@ use Prim.Native.Nat.{ℕ, zero, suc, ◌+◌, ◌-◌, ◌*◌, ◌/◌, ◌≤�
 use native.Mathlib.Omega.{arith}
 use lib.ListN.{length, take, drop}
 use Rattle.families.specs.Forest.{Forest, nil, end_of, WF}
-use Rattle.families.specs.Decoded.{row_of}
+use Rattle.families.specs.declared.Family.{Family}
 use Rattle.families.specs.Flat.{total, flat}
 use Rattle.families.proofs.Flats.{length_flat}
 use Rattle.sheets.specs.declared.records.Limits.{Limits}
@@ -18,7 +18,7 @@ use Rattle.sheets.specs.Sheet.{beside, forest_from}
 use Rattle.sheets.specs.Steps.{Stepped, Written}
 use Rattle.sheets.proofs.Shapes.{node_at, refused_not_got, unless_got, then_got, forest_shape}
 use Rattle.sheets.proofs.Descent.{children, others, none_after, step, children_got, step_got}
-use Rattle.sheets.proofs.Lent.{rows_joined}
+use Rattle.sheets.proofs.Lent.{families_joined}
 use Rattle.sheets.proofs.FamilySteps.{families_read}
 
 module _ (xs : List ℕ) (levels : ℕ) (m : Limits) (at : ℕ) where
@@ -102,18 +102,18 @@ module _ (xs : List ℕ) (levels : ℕ) (m : Limits) (count at : ℕ) (r : Step)
   pub rest_step : (after : Result Step Refused) → Stepped r.place r.end (forest_from xs levels next_limits (count - 1) r.place) after → Stepped at m.from (forest_from xs levels m count at) after
   rest_step after e = rw O.all (step_over _ after (rw rest_read at e))
 
-  row_over : (row after ys : List ℕ) (next n : ℕ) (R : Read Forest) → next ≡ 6 * suc (total O.kids + 0) → n ≡ length after - next
-      → after ≡ row_of (flat (node_at xs at O.kids nil)) ++ drop (6 * suc (total O.kids + 0)) row → Written R (take n (drop next after)) ys
-      → Written (and_then R (λ rest. got (node_at xs at O.kids rest))) row (take next after ++ (ys ++ drop n (drop next after)))
+  families_over : (before after behind : List Family) (span n : ℕ) (R : Read Forest) → span ≡ suc (total O.kids + 0) → n ≡ length after - span
+      → after ≡ flat (node_at xs at O.kids nil) ++ drop (suc (total O.kids + 0)) before → Written R (take n (drop span after)) behind
+      → Written (and_then R (λ rest. got (node_at xs at O.kids rest))) before (take span after ++ (behind ++ drop n (drop span after)))
   unfolding Written and_then total flat
-  row_over row after ys next n (refused number place) a b e w = tt
-  row_over row after ys next n (got rest) a b e w =
+  families_over before after behind span n (refused number place) a b e w = tt
+  families_over before after behind span n (got rest) a b e w =
       let one = node_at xs at O.kids nil in
       let size : suc (total O.kids + 0) + total rest ≡ suc (total O.kids + total rest) = omega arith in
-      rows_joined (flat one) (flat rest) (total one) (total rest) row after ys next n (length_flat one) a b e w ∙ rw (append-nil (flat O.kids), size) refl
+      families_joined (flat one) (flat rest) span (total rest) before after behind n (length_flat one ∙ sym a) b (rw a e) w ∙ rw (a, append-nil (flat O.kids), size) refl
 
-  pub rest_written : (row after ys : List ℕ) (next n : ℕ) → next ≡ 6 * ((r.place - at) / 22) → n ≡ length after - next → Written (forest_from xs levels m 1 at) row after
-      → Written (forest_from xs levels next_limits (count - 1) r.place) (take n (drop next after)) ys
-      → Written (forest_from xs levels m count at) row (take next after ++ (ys ++ drop n (drop next after)))
+  pub rest_written : (before after behind : List Family) (n : ℕ) → n ≡ length after - (r.place - at) / 22 → Written (forest_from xs levels m 1 at) before after
+      → Written (forest_from xs levels next_limits (count - 1) r.place) (take n (drop ((r.place - at) / 22) after)) behind
+      → Written (forest_from xs levels m count at) before (take ((r.place - at) / 22) after ++ (behind ++ drop n (drop ((r.place - at) / 22) after)))
   unfolding Written total
-  rest_written row after ys next n a b first w = rw O.all (row_over row after ys next n _ (omega (arith, span_is)) b (rw O.first at first) (rw rest_read at w))
+  rest_written before after behind n b first w = rw O.all (families_over before after behind _ n _ (omega (arith, span_is)) b (rw O.first at first) (rw rest_read at w))

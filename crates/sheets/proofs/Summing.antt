@@ -7,14 +7,10 @@ use native.Mathlib.Numerals.{add-one}
 use native.Mathlib.Omega.{arith}
 use Rattle.counting.specs.Gather.{tabulated}
 use Rattle.counting.proofs.Gathers.{tabulated_more}
-use lib.ListN.{length, take, get_or}
-use lib.Seq.{get_or-take}
-use Rattle.std.proofs.lemmas.List.{length-take}
-use Rattle.families.specs.declared.Element.{Element}
 use Rattle.families.specs.declared.Layout.{Layout}
-use Rattle.families.specs.Forest.{Forest, size_of, Sound}
-use Rattle.families.specs.Decoded.{no_element, element_of, tree_of, trees_of, forest_at, family_at, row_of, LayoutOk}
-use Rattle.families.proofs.Flats.{element_sound, element_size, element_small}
+use Rattle.families.specs.Forest.{Forest, size_of, RulesKept}
+use Rattle.families.specs.Decoded.{tree_of, trees_of, LayoutOk}
+use Rattle.families.proofs.Flats.{element_ruled, element_size, element_small}
 use Rattle.sheets.specs.Pattern.{sizes}
 
 -- one element more
@@ -22,10 +18,6 @@ sizes_more : (Fs : List Forest) (F : Forest) → sizes (Fs ++ (F ∷ [])) ≡ si
 unfolding sizes
 sizes_more [] F = omega arith
 sizes_more (G ∷ Fs) F = omega (arith, sizes_more Fs F)
-
--- the element of the e-th turn
-abbrev pub turn_element : Layout → (e : ℕ) → Element
-turn_element t e = get_or (take t.elements t.element) e no_element
 
 -- the sum is that of the first e elements, each of which selects 65,536 offsets at most
 pub record Summed (t : Layout) (e sum : ℕ) : Type 0 where
@@ -43,32 +35,22 @@ module _ {t : Layout} {e sum : ℕ} (S : Summed t e sum) where
   pub summed_small : sum ≤ 1048576
   summed_small = omega (arith, S.small, S.upto, S.ok.room)
 
-  module _ (h : e < length (take t.elements t.element)) (numbers : List ℕ) (row : numbers ≡ row_of t.family) where
-    before_end : e < t.elements
-    before_end = omega (arith, h, length-take t.elements t.element)
+  module _ (h : e < t.elements) where
+    pub tree_ruled : RulesKept (tree_of 4 t e)
+    tree_ruled = element_ruled 4 65535 t S.ok e h (omega arith)
 
-    -- the loop's element is the layout's
-    is_element : turn_element t e ≡ element_of t e
-    is_element = get_or-take t.elements t.element e no_element before_end
-
-    pub summed_asks : Sound (forest_at 4 (family_at numbers) (turn_element t e).first (turn_element t e).tops)
-    summed_asks = rw is_element (element_sound 4 65535 t S.ok e before_end numbers row (omega arith))
-
-    module _ (size : ℕ) (y : size ≡ size_of (forest_at 4 (family_at numbers) (turn_element t e).first (turn_element t e).tops)) where
-      z : size ≡ size_of (forest_at 4 (family_at numbers) (element_of t e).first (element_of t e).tops)
-      z = rw is_element at y
-
+    module _ (F : Forest) (lent : F ≡ tree_of 4 t e) (size : ℕ) (is : size ≡ size_of F) where
       pub size_small : size ≤ 65536
-      size_small = element_small 4 65535 t S.ok e before_end numbers row size z
+      size_small = element_small 4 65535 t S.ok e h F lent size is
 
       pub summed_next : Summed t (e + 1) (sum + size)
       summed_next = record {
         ok = S.ok;
-        upto = omega (arith, before_end);
-        is = rw (S.is, element_size 4 65535 t S.ok e before_end numbers row size z, add-one e, tabulated_more 0 e (tree_of 4 t), zero-add e) (sym (sizes_more (tabulated 0 e (tree_of 4 t)) (tree_of 4 t e)));
+        upto = omega (arith, h);
+        is = rw (S.is, element_size 4 65535 t S.ok e h F lent size is, add-one e, tabulated_more 0 e (tree_of 4 t), zero-add e) (sym (sizes_more (tabulated 0 e (tree_of 4 t)) (tree_of 4 t e)));
         small = omega (arith, S.small, size_small);
       }
 
-  pub summed_all : e ≡ length (take t.elements t.element) → t.elements ≤ length t.element → sum ≡ sizes (trees_of 4 t)
+  pub summed_all : e ≡ t.elements → sum ≡ sizes (trees_of 4 t)
   unfolding trees_of
-  summed_all h k = let z : e ≡ t.elements = omega (arith, h, k, length-take t.elements t.element) in rw z at S.is
+  summed_all all = rw all at S.is

@@ -2,9 +2,9 @@
 use Rattle.std.specs.Prelude.{◌≡◌, List, [], ◌∷◌, ◌++◌, cond, ℕ, Result, Ok, Err, ◌+◌, ◌*◌, max, ltb, length, drop, set, replicate}
 use Rattle.std.proofs.lemmas.List.Edits.{sets}
 use Rattle.families.specs.Forest.{Forest, end_of}
-use Rattle.counting.specs.Gather.{tabulated}
+use Rattle.families.specs.declared.Family.{Family}
 use Rattle.families.specs.declared.Layout.{Layout}
-use Rattle.families.specs.Decoded.{no_element, trees_of, row_of, family_at}
+use Rattle.families.specs.Decoded.{no_element, trees_of}
 use Rattle.families.specs.Flat.{total, flat, totals, flats, elements_at}
 use Rattle.sheets.specs.declared.trees.Step.{Step}
 use Rattle.sheets.specs.declared.elements.Progress.{Progress}
@@ -31,9 +31,9 @@ Stepped at from (got F) (Err r) = ⊥
 Stepped at from (refused number place) (Ok s) = ⊥
 Stepped at from (refused number place) (Err r) = Refuses r number place
 
--- siblings that were read stand in front of the row, and what stood behind them stays
-unfoldable pub Written : Read Forest → (before after : List ℕ) → Type 0
-Written (got F) before after = after ≡ row_of (flat F) ++ drop (6 * total F) before
+-- siblings that were read stand in front of the lent families, and what stood behind them stays
+unfoldable pub Written : Read Forest → (before after : List Family) → Type 0
+Written (got F) before after = after ≡ flat F ++ drop (total F) before
 Written (refused number place) before after = Unit {0}
 
 -- ---- elements
@@ -70,14 +70,14 @@ Progressed (got Fs) p (Err r) = ⊥
 Progressed (refused number place) p (Ok after) = ⊥
 Progressed (refused number place) p (Err r) = Refuses r number place
 
-unfoldable pub WrittenAll : Read (List Forest) → (before after : List ℕ) → Type 0
-WrittenAll (got Fs) before after = after ≡ row_of (flats Fs) ++ drop (6 * totals Fs) before
+unfoldable pub WrittenAll : Read (List Forest) → (before after : List Family) → Type 0
+WrittenAll (got Fs) before after = after ≡ flats Fs ++ drop (totals Fs) before
 WrittenAll (refused number place) before after = Unit {0}
 
 -- ---- the answer
--- the layout of what was read, its families' numbers in a row
-unfoldable pub layout_from : (displacement : ℕ) → Progress → List ℕ → Layout
-layout_from d p row = record { displacement = d; elements = p.elements; families = p.families; element = p.element; family = tabulated 0 256 (family_at row) }
+-- the layout of what was read
+unfoldable pub layout_from : (displacement : ℕ) → Progress → List Family → Layout
+layout_from d p families = record { displacement = d; elements = p.elements; families = p.families; element = p.element; family = families }
 
 -- number 11, or the layout
 unfoldable pub judged_layout : Layout → Reading

@@ -1,6 +1,5 @@
 // Elements: the records of a sheet from its header to its last byte.
-ghost use Rattle.std.specs.Prelude.{◌≡◌, ◌+◌, ◌-◌, ◌*◌, ◌≤◌, ◌<◌, length};
-ghost use Rattle.families.specs.Decoded.{ROW};
+ghost use Rattle.std.specs.Prelude.{◌≡◌, ◌+◌, ◌-◌, ◌≤◌, ◌<◌, length};
 ghost use Rattle.sheets.specs.Sheet.{top, elements_from, elements_of};
 ghost use Rattle.sheets.specs.Steps.{Progressed, WrittenAll, with_element, start};
 
@@ -8,7 +7,7 @@ use crate::records::Limits;
 use crate::refusals::{Fault, Refused};
 use crate::trees::Step;
 use crate::{digits, records, trees};
-use families::Element;
+use families::{Element, Family};
 
 // How far a sheet was read: where the next record starts, the first offset past all families, how many elements and families there are, and the
 // elements.
@@ -22,14 +21,14 @@ pub struct Progress {
 }
 
 // Reads the header and all elements; no byte may follow them.
-pub fn read_records(sheet: &[u8], numbers: &mut [u32]) -> Result<Progress, Refused>
-    requires { length numbers.old ≡ ROW }
+pub fn read_records(sheet: &[u8], families: &mut [Family]) -> Result<Progress, Refused>
+    requires { length families.old ≡ 256 }
     ensures progress { Progressed (elements_of sheet.now) start result }
-    ensures row { WrittenAll (elements_of sheet.now) numbers.old numbers.new }
+    ensures written { WrittenAll (elements_of sheet.now) families.old families.new }
 {
     records::check_record(sheet, records::HEADER, 0, 4, top_limits(256))?;
     let count = digits::le16_at(sheet, 8);
-    let all = read_elements(sheet, count, at_the_start(), numbers)?;
+    let all = read_elements(sheet, count, at_the_start(), families)?;
     if all.place < sheet.len() {
         return Err(Refused {
             fault: Fault::Trailing,
@@ -44,14 +43,14 @@ pub fn read_elements(
     sheet: &[u8],
     count: u32,
     done: Progress,
-    numbers: &mut [u32],
+    families: &mut [Family],
 ) -> Result<Progress, Refused>
     requires inside { done.place ≤ length sheet.now }
     requires elements { done.elements + count ≤ 16 }
     requires families { done.families ≤ 256 }
-    requires row { length numbers.old ≡ 6 * (256 - done.families) }
+    requires long { length families.old ≡ 256 - done.families }
     ensures progress { Progressed (elements_from sheet.now (256 - done.families) count done.place) done result }
-    ensures row { WrittenAll (elements_from sheet.now (256 - done.families) count done.place) numbers.old numbers.new }
+    ensures written { WrittenAll (elements_from sheet.now (256 - done.families) count done.place) families.old families.new }
 {
     if count == 0 {
         return Ok(done);
@@ -60,15 +59,14 @@ pub fn read_elements(
     let limits = top_limits(256 - done.families);
     records::check_record(sheet, records::ELEMENT, at, 4, limits)?;
     let tops = digits::le16_at(sheet, at + 4);
-    let step = trees::read_siblings(sheet, at + 6, tops, 4, limits, numbers)?;
-    // an element record takes 6 bytes, a family record 22, and a family six numbers
+    let step = trees::read_siblings(sheet, at + 6, tops, 4, limits, families)?;
+    // an element record takes 6 bytes, a family record 22
     let span = (step.place - at - 6) / 22;
-    let next = 6 * span;
     read_elements(
         sheet,
         count - 1,
         add_element(done, tops, span as u32, step),
-        &mut numbers[next..],
+        &mut families[span..],
     )
 }
 

@@ -1,7 +1,7 @@
 // The pattern that the elements share: its size, and number 11, the first offset that is not in exactly one element.
-ghost use Rattle.std.specs.Prelude.{◌≡◌, ◌==◌, ◌||◌, take, ◌-◌, ◌^◌, ◌≤◌, ◌<◌};
+ghost use Rattle.std.specs.Prelude.{◌≡◌, ◌==◌, ◌||◌, ◌-◌, ◌^◌, ◌≤◌, ◌<◌};
 ghost use Rattle.std.specs.List.{position};
-ghost use Rattle.families.specs.Decoded.{row_of, trees_of, LayoutOk};
+ghost use Rattle.families.specs.Decoded.{trees_of, LayoutOk};
 ghost use Rattle.sheets.specs.Pattern.{sizes};
 ghost use Rattle.sheets.specs.Uneven.{uneven_of};
 
@@ -9,14 +9,13 @@ use crate::refusals::{Fault, Refused};
 use families::Layout;
 
 // How many offsets the pattern has: what the elements select together.
-pub fn pattern_size(layout: Layout, numbers: &[u32]) -> u32
-    requires row { numbers.now ≡ row_of layout.family }
-    requires ok { LayoutOk 4 65535 layout }
+pub fn pattern_size(layout: Layout) -> u32
+    requires { LayoutOk 4 65535 layout }
     ensures { result ≡ sizes (trees_of 4 layout) }
 {
     let mut sum: u64 = 0;
-    for element in &layout.element[..layout.elements] {
-        sum += families::size(numbers, element.first, element.tops, 4);
+    for e in 0..layout.elements {
+        sum += layout.siblings(e, 4).size();
     }
     sum as u32
 }
@@ -29,20 +28,15 @@ pub fn scan(table: &[u8]) -> Option<usize>
 }
 
 // The first uneven offset of a pattern, by a table of N places for their owners, one for each offset that an element can have.
-pub fn first_uneven<const N: usize>(
-    layout: Layout,
-    size: u32,
-    numbers: &[u32],
-) -> Result<(), Refused>
+pub fn first_uneven<const N: usize>(layout: Layout, size: u32) -> Result<(), Refused>
     requires table { N < 2 ^ 62 }
-    requires row { numbers.now ≡ row_of layout.family }
     requires some { 0 < N }
     requires ok { LayoutOk 4 (N - 1) layout }
     requires whole { size ≡ sizes (trees_of 4 layout) }
     ensures { result ≡ uneven_of (trees_of 4 layout) }
 {
     let mut table = [0u8; N];
-    families::owners(numbers, layout, 4, &mut table);
+    families::owners(layout, 4, &mut table);
     let end = N.min(size as usize);
     let Some(place) = scan(&table[..end]) else {
         return Ok(());
@@ -59,8 +53,7 @@ pub fn first_uneven<const N: usize>(
 }
 
 // The first uneven offset of a pattern whose elements end at `end`. A small table is used where it does, so that no large one is cleared.
-pub fn judge_pattern(layout: Layout, size: u32, end: u32, numbers: &[u32]) -> Result<(), Refused>
-    requires row { numbers.now ≡ row_of layout.family }
+pub fn judge_pattern(layout: Layout, size: u32, end: u32) -> Result<(), Refused>
     requires least { 1 ≤ end }
     requires most { end ≤ 65536 }
     requires ok { LayoutOk 4 (end - 1) layout }
@@ -68,8 +61,8 @@ pub fn judge_pattern(layout: Layout, size: u32, end: u32, numbers: &[u32]) -> Re
     ensures { result ≡ uneven_of (trees_of 4 layout) }
 {
     if end <= 2048 {
-        first_uneven::<2048>(layout, size, numbers)
+        first_uneven::<2048>(layout, size)
     } else {
-        first_uneven::<65536>(layout, size, numbers)
+        first_uneven::<65536>(layout, size)
     }
 }

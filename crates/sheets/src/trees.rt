@@ -1,4 +1,4 @@
-// Trees: the families of an element, read in sheet order, each followed by its children, and written into a row of numbers.
+// Trees: the families of an element, read in sheet order, each followed by its children, into a lent part of the layout's array.
 ghost use Rattle.std.specs.Prelude.{◌≡◌, ◌*◌, ◌≤◌, length};
 ghost use Rattle.sheets.specs.Sheet.{within, forest_from};
 ghost use Rattle.sheets.specs.Steps.{Stepped, Written};
@@ -6,7 +6,7 @@ ghost use Rattle.sheets.specs.Steps.{Stepped, Written};
 use crate::records;
 use crate::records::Limits;
 use crate::refusals::Refused;
-use families::{Family, put_family};
+use families::Family;
 
 // What reading siblings gives: where the next record starts, and the first offset past them.
 #[derive(Clone, Copy)]
@@ -24,14 +24,14 @@ pub fn read_siblings(
     count: u32,
     levels: u32,
     limits: Limits,
-    numbers: &mut [u32],
+    families: &mut [Family],
 ) -> Result<Step, Refused>
     requires inside { at ≤ length sheet.now }
     requires few { count ≤ 65535 * levels }
     requires room { limits.room ≤ 256 }
-    requires row { length numbers.old ≡ 6 * limits.room }
+    requires long { length families.old ≡ limits.room }
     ensures step { Stepped at limits.from (forest_from sheet.now levels limits count at) result }
-    ensures row { Written (forest_from sheet.now levels limits count at) numbers.old numbers.new }
+    ensures written { Written (forest_from sheet.now levels limits count at) families.old families.new }
 {
     if count == 0 {
         return Ok(Step {
@@ -39,22 +39,21 @@ pub fn read_siblings(
             end: limits.from,
         });
     }
-    let first = read_family(sheet, at, levels, limits, numbers)?;
-    // a family record takes 22 bytes, and a family six numbers
+    let first = read_family(sheet, at, levels, limits, families)?;
+    // a family record takes 22 bytes
     let span = (first.place - at) / 22;
     let others = Limits {
         bound: limits.bound,
         from: first.end,
         room: limits.room - span as u32,
     };
-    let next = 6 * span;
     read_siblings(
         sheet,
         first.place,
         count - 1,
         levels,
         others,
-        &mut numbers[next..],
+        &mut families[span..],
     )
 }
 
@@ -65,14 +64,14 @@ pub fn read_family(
     at: usize,
     levels: u32,
     limits: Limits,
-    numbers: &mut [u32],
+    families: &mut [Family],
 ) -> Result<Step, Refused>
     requires inside { at ≤ length sheet.now }
     requires some { 1 ≤ levels }
     requires room { limits.room ≤ 256 }
-    requires row { length numbers.old ≡ 6 * limits.room }
+    requires long { length families.old ≡ limits.room }
     ensures step { Stepped at limits.from (forest_from sheet.now levels limits 1 at) result }
-    ensures row { Written (forest_from sheet.now levels limits 1 at) numbers.old numbers.new }
+    ensures written { Written (forest_from sheet.now levels limits 1 at) families.old families.new }
 {
     records::check_record(sheet, records::FAMILY, at, levels, limits)?;
     let mut f = records::family_record(sheet, at);
@@ -82,11 +81,11 @@ pub fn read_family(
         f.children,
         levels - 1,
         inner_limits(limits, f),
-        &mut numbers[6..],
+        &mut families[1..],
     )?;
     let span = (kids.place - at) / 22;
     f.span = span as u32;
-    put_family(f, &mut numbers[0..6]);
+    families[0] = f;
     Ok(Step {
         place: kids.place,
         end: records::last_byte(f) + 1,

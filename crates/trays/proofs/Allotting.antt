@@ -13,9 +13,9 @@ use Rattle.counting.specs.Trays.{counts}
 use Rattle.counting.proofs.Cases.{same_or_not}
 use Rattle.counting.proofs.Counts.{count_window}
 use Rattle.counting.proofs.TrayParts.{part_end, part_within}
+use Rattle.families.specs.declared.Family.{Family}
 use Rattle.families.specs.declared.Layout.{Layout}
 use Rattle.families.specs.declared.TrayPlace.{TrayPlace}
-use Rattle.families.specs.Decoded.{row_of}
 use Rattle.maps.specs.declared.Selection.{Selection}
 use Rattle.maps.specs.declared.window.Window.{Window}
 use Rattle.maps.specs.Selected.{belongs, selection_of, elements_of, PatternOk}
@@ -75,18 +75,18 @@ module _ {t : Layout} {size : ℕ} (P : PatternOk t size) (w : Window) {shares�
   there = omega (arith, elements_length t size)
 
   -- what `share_of` answers for s, the selection of element e
-  module _ {row : List ℕ} (laid : row ≡ row_of t.family) (s : Selection) (chosen : s ≡ selection_of t size e) (share : Share)
-      (answer : (share.start ≡ record { 0 = at }) × ((share.count ≡ count_below (belongs s row) b - count_below (belongs s row) a)
-      × ((share.before.0 ≡ count_below (belongs s row) a) × (share.size ≡ s.size)))) where
+  module _ {families : List Family} (laid : families ≡ t.family) (s : Selection) (chosen : s ≡ selection_of t size e) (share : Share)
+      (answer : (share.start ≡ record { 0 = at }) × ((share.count ≡ count_below (belongs s families) b - count_below (belongs s families) a)
+      × ((share.before.0 ≡ count_below (belongs s families) a) × (share.size ≡ s.size)))) where
     own : ShareOf L t.displacement size a (bytes_of w) e share
     own =
-        let p = belongs s row in
-        let selects = selection_belongs t size row laid e h s chosen in
+        let p = belongs s families in
+        let selects = selection_belongs t size families laid e h s chosen in
         record {
           start = ap (λ (r : TrayPlace). r.0) answer.0 ∙ A.here;
           count = rw (← selects) (omega (arith, answer.1.0, count_window p a b w.ok.ordered));
           before = rw (← selects) answer.1.1.0;
-          size = answer.1.1.1 ∙ selection_size t size row laid e h s chosen P;
+          size = answer.1.1.1 ∙ selection_size t size families laid e h s chosen P;
         }
 
     pub allotting_fits : t.displacement ≤ a → at + share.count ≤ 2 ^ 40

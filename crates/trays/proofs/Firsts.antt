@@ -10,9 +10,10 @@ use lib.ListN.{length, get_or, set, length-set}
 use lib.Seq.{get_or-set_same, get_or-set_other}
 use Rattle.counting.specs.Periodic.{owns}
 use Rattle.counting.proofs.Cases.{same_or_not}
+use Rattle.families.specs.declared.Family.{Family}
 use Rattle.families.specs.declared.Layout.{Layout}
 use Rattle.families.specs.Forest.{has}
-use Rattle.families.specs.Decoded.{tree_of, row_of}
+use Rattle.families.specs.Decoded.{tree_of}
 use Rattle.maps.specs.declared.Selection.{Selection}
 use Rattle.maps.specs.Selected.{belongs, Byte, selection_of, PatternOk}
 use Rattle.maps.proofs.Chosen.{belongs_tree}
@@ -33,8 +34,8 @@ pub record FirstAt (t : Layout) (size e x : ℕ) : Type 0 where
   pub after : t.displacement ≤ x
   pub place : First (has (tree_of 4 t e)) size (x - t.displacement)
 
-pub first_at : {t : Layout} {size e : ℕ} {s : Selection} {row : List ℕ} (x : ℕ) → PatternOk t size → row ≡ row_of t.family → s ≡ selection_of t size e
-    → Byte (belongs s row) 0 x → FirstAt t size e x
+pub first_at : {t : Layout} {size e : ℕ} {s : Selection} {families : List Family} (x : ℕ) → PatternOk t size → families ≡ t.family → s ≡ selection_of t size e
+    → Byte (belongs s families) 0 x → FirstAt t size e x
 first_at {t} {size} {e} x P laid is B =
     let byte : Byte (owns t.displacement size (has (tree_of 4 t e))) 0 x = rw (is, laid, belongs_tree t e size) at B in
     record {

@@ -13,18 +13,18 @@ use Rattle.counting.specs.Elements.{Elements, element, times, Partition}
 use Rattle.counting.proofs.Gathers.{length_tabulated, tabulated_map}
 use Rattle.counting.proofs.Periods.{period_count}
 use Rattle.counting.proofs.Elements.{element_tabulated, times_owns}
+use Rattle.families.specs.declared.Family.{Family}
 use Rattle.families.specs.declared.Layout.{Layout}
 use Rattle.families.specs.Forest.{has}
-use Rattle.families.specs.Decoded.{tree_of, selections, row_of}
+use Rattle.families.specs.Decoded.{tree_of, selections}
 use Rattle.maps.specs.declared.Selection.{Selection}
-use Rattle.maps.specs.Selected.{families_of, belongs, selection_of, elements_of, PatternOk}
-use Rattle.maps.proofs.Chosen.{belongs_tree}
+use Rattle.maps.specs.Selected.{families_of, belongs, SelectionOk, selection_of, elements_of, PatternOk}
+use Rattle.maps.proofs.Chosen.{belongs_tree, selection_ok}
 use Rattle.moves.specs.declared.ahead.Stride.{Stride}
 use Rattle.moves.specs.Strides.{AheadBy, around, Strides}
 use Rattle.moves.specs.Owning.{held_by}
 use Rattle.parts.specs.Tabled.{tabled}
 use Rattle.trays.specs.Tables.{Tables}
-use Rattle.trays.proofs.Choosing.{chosen_ok}
 use Rattle.moves.proofs.Looking.{ahead_by_place}
 
 -- ---- the elements of a layout
@@ -42,8 +42,8 @@ module _ (t : Layout) (size : ℕ) where
       ∙ times_owns (selections 4 t) d size x (omega arith) ∙ P.once ((x - d) % size) (mod-lt (x - d) P.least)
 
   -- s, the selection of element e
-  module _ (row : List ℕ) (laid : row ≡ row_of t.family) (e : ℕ) (h : e < t.elements) (s : Selection) (chosen : s ≡ selection_of t size e) where
-    pub selection_belongs : belongs s row ≡ element (elements_of t size) e
+  module _ (families : List Family) (laid : families ≡ t.family) (e : ℕ) (h : e < t.elements) (s : Selection) (chosen : s ≡ selection_of t size e) where
+    pub selection_belongs : belongs s families ≡ element (elements_of t size) e
     unfolding elements_of
     selection_belongs = rw (chosen, laid) (belongs_tree t e size ∙ sym (element_tabulated _ t.elements e h))
 
@@ -55,9 +55,9 @@ module _ (t : Layout) (size : ℕ) where
     pub selection_size : PatternOk t size → s.size ≡ count_in (element (elements_of t size) e) t.displacement size
     unfolding selection_of belongs
     selection_size P =
-        let q = has (families_of s row) in
+        let q = has (families_of s families) in
         let period : s.period ≡ size = ap (λ (r : Selection). r.period) chosen in
-        (chosen_ok P laid h chosen).size
+        (let ok : SelectionOk s families = rw (chosen, laid) (selection_ok t size P e h) in ok.size)
         ∙ sym (period_count s.from s.period q)
         ∙ ap (λ (p : ℕ → Bool). count_in p s.from s.period) selection_belongs
         ∙ rw (selection_from, period) refl
@@ -69,12 +69,12 @@ module _ (t : Layout) (size : ℕ) where
     element_held e h = ap (λ (K : Elements). element K e) (sym T.is) ∙ element_tabulated _ t.elements e h
 
     -- a walk over an element can use them
-    pub tables_strides : PatternOk t size → (row : List ℕ) → row ≡ row_of t.family → (e : ℕ) → e < t.elements
-        → Strides (selection_of t size e) (belongs (selection_of t size e) row) strides
+    pub tables_strides : PatternOk t size → (e : ℕ) → e < t.elements
+        → Strides (selection_of t size e) (belongs (selection_of t size e) t.family) strides
     unfolding selection_of
-    tables_strides P row laid e h =
+    tables_strides P e h =
         let F = T.each e h in
-        rw (selection_belongs row laid e h (selection_of t size e) refl ∙ element_held e h) (record {
+        rw (selection_belongs t.family refl e h (selection_of t size e) refl ∙ element_held e h) (record {
           some = P.least;
           held = F.held;
           each = λ x after m. ahead_by_place t.displacement size (held_by owners (suc e)) x after P.least F m;

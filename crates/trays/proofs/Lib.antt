@@ -1,4 +1,3 @@
-pub mod Choosing
 pub mod Firsts
 pub mod Owners
 pub mod Ranking

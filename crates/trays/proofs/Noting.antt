@@ -1,5 +1,5 @@
 -- What `moving` asks of what it calls, and what it makes of the answers. Assumes nothing.
-use mathlib.Core.Path.{◌≡◌, sym, ap, ◌∙◌, refl}
+use mathlib.Core.Path.{◌≡◌, sym, ap, ◌∙◌}
 use mathlib.Core.List.{List}
 use Prim.Native.Nat.{ℕ, ◌≤◌, ◌<◌}
 use native.Mathlib.Omega.{arith}
@@ -8,9 +8,8 @@ use lib.Seq.{take_all}
 use Rattle.counting.specs.Elements.{Elements, Partition}
 use Rattle.counting.specs.Trays.{moved, pair_moved}
 use Rattle.families.specs.declared.Layout.{Layout}
-use Rattle.families.specs.Decoded.{row_of}
 use Rattle.maps.specs.declared.window.Window.{Window}
-use Rattle.maps.specs.Selected.{elements_of}
+use Rattle.maps.specs.Selected.{elements_of, PatternOk}
 use Rattle.moves.specs.declared.ahead.Stride.{Stride}
 use Rattle.moves.specs.Strides.{Filled}
 use Rattle.moves.specs.Owning.{held_by}
@@ -19,48 +18,44 @@ use Rattle.parts.specs.declared.shares.Share.{Share}
 use Rattle.parts.specs.Tabled.{Ranked}
 use Rattle.parts.specs.Pieces.{bytes_of, SharesOf, Written, every_pair, one_pair}
 use Rattle.trays.specs.Tables.{Tables}
-use Rattle.trays.specs.Parts.{cycle_of, Prepared, moved_where, ChosenOk, Starts}
+use Rattle.trays.specs.Parts.{cycle_of, Prepared, moved_where, ChosenOk}
 use Rattle.trays.proofs.Layouts.{elements_length, elements_share, tables_strides, tables_ahead}
 use Rattle.trays.proofs.Choices.{length_where, where_all, where_pair}
 
 -- ---- what is written down of a layout
-module _ {t : Layout} {size : ℕ} {w : Window} (S : Starts t size w) {owners : List ℕ} {strides : List Stride} (T : Tables t size owners strides) where
+module _ {t : Layout} {size : ℕ} (P : PatternOk t size) {owners : List ℕ} {strides : List Stride} (T : Tables t size owners strides) where
   -- every place has an owner, so some table is filled
   filled : Filled (held_by owners 1) size strides
   filled =
-      let first = S.pattern.least in
+      let first = P.least in
       T.each 0 (omega (arith, T.owned.some 0 first, T.owned.most 0 first))
 
-  pub sources_noted : {ranks : List ℕ} {shares : List Share} → Ranked owners size ranks
-      → SharesOf (elements_of t size) t.displacement size w.start.0 (bytes_of w) shares
-      → Written (cycle_of t size) w.start.0 (bytes_of w) owners strides ranks shares
-  sources_noted R H = record {
-    owned = T.owned;
-    some = S.pattern.least;
-    short = omega (arith, S.pattern.most);
-    after = S.after;
-    near = omega (arith, w.ok.ordered, w.ok.near);
-    held = filled.held;
-    ahead = tables_ahead t size T;
-    ranked = R;
-    shared = rw T.is H;
-  }
+  module _ (w : Window) (after : t.displacement ≤ w.start.0) where
+    pub sources_noted : {ranks : List ℕ} {shares : List Share} → Ranked owners size ranks
+        → SharesOf (elements_of t size) t.displacement size w.start.0 (bytes_of w) shares
+        → Written (cycle_of t size) w.start.0 (bytes_of w) owners strides ranks shares
+    sources_noted R H = record {
+      owned = T.owned;
+      some = P.least;
+      short = omega (arith, P.most);
+      after = after;
+      near = omega (arith, w.ok.ordered, w.ok.near);
+      held = filled.held;
+      ahead = tables_ahead t size T;
+      ranked = R;
+      shared = rw T.is H;
+    }
 
-  pub targets_noted : {row : List ℕ} {shares : List Share} → row ≡ row_of t.family
-      → SharesOf (elements_of t size) t.displacement size w.start.0 (bytes_of w) shares → Prepared t size w row strides shares
-  targets_noted {row} laid H = record {
-    pattern = S.pattern;
-    laid = laid;
-    after = S.after;
-    ahead = tables_strides t size T S.pattern (row_of t.family) refl;
-    shared = H;
-  }
+    pub targets_noted : {shares : List Share} → SharesOf (elements_of t size) t.displacement size w.start.0 (bytes_of w) shares
+        → Prepared t size w strides shares
+    targets_noted H = record {
+      after = after;
+      ahead = tables_strides t size T P;
+      shared = H;
+    }
 
--- ---- two layouts
-module _ {t1 t2 : Layout} {size1 size2 : ℕ} {w : Window} (S1 : Starts t1 size1 w) (S2 : Starts t2 size2 w) where
-  abbrev L : Elements
-  L = elements_of t1 size1
-
+-- ---- a layout of elements L, and one whose pattern is shared out
+module _ (L : Elements) (t2 : Layout) (size2 : ℕ) (P : PatternOk t2 size2) (w : Window) (after : t2.displacement ≤ w.start.0) where
   abbrev M : Elements
   M = elements_of t2 size2
 
@@ -68,7 +63,7 @@ module _ {t1 t2 : Layout} {size1 size2 : ℕ} {w : Window} (S1 : Starts t1 size1
   a = w.start.0
 
   shared : Partition M a (bytes_of w)
-  shared = elements_share t2 size2 S2.pattern _ _ S2.after
+  shared = elements_share t2 size2 P _ _ after
 
   module _ (t u : List ℕ) where
     -- an empty window has nothing to move

@@ -13,11 +13,11 @@ use Rattle.counting.specs.Count.{count_in}
 use Rattle.counting.specs.Elements.{Elements, element, Partition}
 use Rattle.counting.specs.Trays.{counts, in_tray}
 use Rattle.counting.proofs.TrayParts.{part_within}
+use Rattle.families.specs.declared.Family.{Family}
 use Rattle.families.specs.declared.Layout.{Layout}
-use Rattle.families.specs.Decoded.{row_of}
 use Rattle.maps.specs.declared.Selection.{Selection}
 use Rattle.maps.specs.declared.window.Window.{Window}
-use Rattle.maps.specs.Selected.{belongs, selection_of, elements_of}
+use Rattle.maps.specs.Selected.{belongs, selection_of, elements_of, PatternOk}
 use Rattle.parts.specs.declared.choices.Chosen.{Chosen}
 use Rattle.parts.specs.declared.shares.Share.{Share}
 use Rattle.moves.specs.declared.ahead.Stride.{Stride}
@@ -62,7 +62,7 @@ pub parted_all : {L M : Elements} {a n : ℕ} {t u₀ : List ℕ} {c : Chosen} {
 parted_all {c = c} {j = j} P h = let end : j ≡ c.last = omega (arith, P.upto) in P.is ∙ rw end refl
 
 -- ---- a round of the loop, for the parts of a layout
-module _ {t : Layout} {size : ℕ} {w : Window} {row : List ℕ} {strides : List Stride} {shares : List Share} (T : Prepared t size w row strides shares) where
+module _ {t : Layout} {size : ℕ} {w : Window} {strides : List Stride} {shares : List Share} (ok : PatternOk t size) (T : Prepared t size w strides shares) where
   abbrev M : Elements
   M = elements_of t size
 
@@ -73,7 +73,7 @@ module _ {t : Layout} {size : ℕ} {w : Window} {row : List ℕ} {strides : List
   n = bytes_of w
 
   pub targets_once : Partition M a n
-  targets_once = elements_share t size T.pattern a n T.after
+  targets_once = elements_share t size ok a n T.after
 
   module _ {L : Elements} {v u₀ : List ℕ} {only : Option ℕ} {first last : ℕ} {u : List ℕ} {j : ℕ} (P : Parted L M a n v u₀ only first last u j)
       (less : j < last) (most : last ≤ t.elements) where
@@ -103,7 +103,7 @@ module _ {t : Layout} {size : ℕ} {w : Window} {row : List ℕ} {strides : List
       pub parting_fits : at + share.count ≤ n
       parting_fits = omega (arith, own.start, own.count, part_within M a n j there targets_once)
 
-      module _ (s : Selection) (chosen : s ≡ selection_of t size j) (lent : List ℕ) (laid : lent ≡ row_of t.family) where
+      module _ (s : Selection) (chosen : s ≡ selection_of t size j) (lent : List Family) (laid : lent ≡ t.family) where
         selects : belongs s lent ≡ element M j
         selects = selection_belongs t size lent laid j parting_element s chosen
 

@@ -8,9 +8,10 @@ use native.Mathlib.Omega.{arith}
 use lib.Dec.{leb}
 use Rattle.counting.proofs.Cases.{same_or_not}
 use Rattle.counting.proofs.Elements.{first_lt}
+use Rattle.families.specs.declared.Family.{Family}
 use Rattle.families.specs.declared.Layout.{Layout}
 use Rattle.families.specs.Forest.{end_of, WF}
-use Rattle.families.specs.Decoded.{tree_of, selections, row_of}
+use Rattle.families.specs.Decoded.{tree_of, selections}
 use Rattle.maps.specs.declared.Selection.{Selection}
 use Rattle.maps.specs.Selected.{families_of, selection_of, PatternOk}
 use Rattle.maps.proofs.Chosen.{families_tree, selection_ok}
@@ -37,7 +38,7 @@ module _ {t : Layout} {size : ℕ} (P : PatternOk t size) {room e : ℕ} (R : Ro
 
   -- ---- one element more, where `fits` says so
   module _ (h : e < t.elements) where
-    chosen_side : SideOk (selection_of t size e) (row_of t.family) 65536 t.displacement
+    chosen_side : SideOk (selection_of t size e) t.family 65536 t.displacement
     unfolding selection_of
     chosen_side = record {
       ok = selection_ok t size P e h;
@@ -45,9 +46,9 @@ module _ {t : Layout} {size : ℕ} (P : PatternOk t size) {room e : ℕ} (R : Ro
       after = omega arith;
     }
 
-    module _ (s : Selection) (is : s ≡ selection_of t size e) (row : List ℕ) (laid : row ≡ row_of t.family)
-        (b : Bool) (test : b ≡ (leb (end_of (families_of s row)) room && leb s.period room)) (fit : b ≡ true) where
-      chosen_fits : FitsTable (selection_of t size e) (row_of t.family) room
+    module _ (s : Selection) (is : s ≡ selection_of t size e) (families : List Family) (laid : families ≡ t.family)
+        (b : Bool) (test : b ≡ (leb (end_of (families_of s families)) room && leb s.period room)) (fit : b ≡ true) where
+      chosen_fits : FitsTable (selection_of t size e) t.family room
       chosen_fits = (side_smaller chosen_side room b (rw (is, laid) at test) fit).fits
 
       pub rooming_next : Rooming t size room (e + 1)

@@ -1,2 +1,3 @@
 pub mod Tables
 pub mod Parts
+pub mod Facts

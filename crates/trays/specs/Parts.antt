@@ -4,7 +4,6 @@ use Rattle.std.specs.Prelude.{◌≡◌, Bool, ◌&&◌, cond, List, IfSome, ℕ
 use Rattle.counting.specs.Elements.{Elements, first_of}
 use Rattle.counting.specs.Trays.{tray, in_tray}
 use Rattle.families.specs.declared.Layout.{Layout}
-use Rattle.families.specs.Decoded.{row_of}
 use Rattle.maps.specs.declared.window.Window.{Window}
 use Rattle.maps.specs.Selected.{selection_of, belongs, elements_of, PatternOk}
 use Rattle.moves.specs.declared.ahead.Stride.{Stride}
@@ -32,15 +31,13 @@ pub record ChosenOk (c : Chosen) (one two : ℕ) : Type 0 where
   pub most : c.last ≤ two
 
 -- ---- what is written down of the second layout, of which the parts are filled
-pub record Prepared (t : Layout) (size : ℕ) (w : Window) (row : List ℕ) (strides : List Stride) (shares : List Share) : Type 0 where
-  pub pattern : PatternOk t size
-  pub laid : row ≡ row_of t.family
+pub record Prepared (t : Layout) (size : ℕ) (w : Window) (strides : List Stride) (shares : List Share) : Type 0 where
   pub after : t.displacement ≤ w.start.0
-  pub ahead : (e : ℕ) → e < t.elements → Strides (selection_of t size e) (belongs (selection_of t size e) (row_of t.family)) strides
+  pub ahead : (e : ℕ) → e < t.elements → Strides (selection_of t size e) (belongs (selection_of t size e) t.family) strides
   pub shared : SharesOf (elements_of t size) t.displacement size w.start.0 (bytes_of w) shares
 
 abbrev pub TargetsOk : Targets → Window → Type 0
-TargetsOk s w = Prepared s.layout.now s.size w s.numbers.now s.strides.now s.shares.now
+TargetsOk s w = Prepared s.pattern.layout.now s.pattern.size w s.strides.now s.shares.now
 
 -- .. and of two trays, also for a window that is not empty
 pub record Lengths (w : Window) (one two : ℕ) : Type 0 where
@@ -51,14 +48,10 @@ pub record TraysOk (w : Window) (one two : ℕ) : Type 0 where
   pub some : w.start.0 < w.end.0
   pub long : Lengths w one two
 
--- ---- what the code asks of a layout and a window that starts in it, also where the families' numbers stand in a row
+-- ---- what the code asks of a layout and a window that starts in it
 pub record Starts (t : Layout) (size : ℕ) (w : Window) : Type 0 where
   pub pattern : PatternOk t size
   pub after : t.displacement ≤ w.start.0
-
-pub record Laid (t : Layout) (size : ℕ) (w : Window) (row : List ℕ) : Type 0 where
-  pub starts : Starts t size w
-  pub laid : row ≡ row_of t.family
 
 -- the cycle of a layout
 abbrev pub cycle_of : Layout → (size : ℕ) → Cycle

@@ -4,7 +4,7 @@ ghost use Rattle.maps.specs.Selected.{elements_of};
 ghost use Rattle.parts.specs.Pieces.{bytes_of, elements_by, SourcesOk};
 ghost use Rattle.trays.specs.Parts.{moved_where, ChosenOk, TargetsOk, TraysOk};
 
-use families::Layout;
+use crate::pattern::Pattern;
 use maps::Window;
 use moves::{Stride, Track};
 use parts::{Chosen, Share, Sources};
@@ -12,9 +12,7 @@ use parts::{Chosen, Share, Sources};
 // What is written down of the second layout: by place in its pattern what lies ahead there, and by element its share of a window.
 #[derive(Clone, Copy)]
 pub struct Targets<'a> {
-    pub numbers: &'a [u32],
-    pub layout: &'a Layout,
-    pub size: u32,
+    pub pattern: Pattern<'a>,
     pub strides: &'a [Stride],
     pub shares: &'a [Share],
 }
@@ -30,14 +28,15 @@ pub fn fill_parts(
 )
     requires targets { TargetsOk targets.now window }
     requires sources { SourcesOk sources.now window.start.0 (bytes_of window) }
-    requires chosen { ChosenOk chosen sources.now.cycle.elements targets.now.layout.now.elements }
+    requires chosen { ChosenOk chosen sources.now.cycle.elements targets.now.pattern.layout.now.elements }
     requires trays { TraysOk window (length tray1.now) (length tray2.old) }
-    ensures { let L = elements_by sources.now.cycle sources.now.owners.now in let M = elements_of targets.now.layout.now targets.now.size in
+    ensures { let L = elements_by sources.now.cycle sources.now.owners.now in let M = elements_of targets.now.pattern.layout.now targets.now.pattern.size in
         tray2.new ≡ moved_where L M window.start.0 (bytes_of window) tray1.now chosen tray2.old }
 {
     let only = chosen.only;
+    let pattern = targets.pattern;
     for j in chosen.first..chosen.last {
-        let subfile = maps::subfile_of(*targets.layout, targets.size, j, targets.numbers);
+        let subfile = maps::subfile_of(pattern.layout, pattern.size, j);
         let track = Track {
             subfile,
             strides: targets.strides,

@@ -4,9 +4,10 @@ ghost use Rattle.counting.specs.Trays.{moved, pair_moved};
 ghost use Rattle.maps.specs.Selected.{elements_of};
 ghost use Rattle.parts.specs.Pieces.{bytes_of, elements_by, Written};
 ghost use Rattle.trays.specs.Tables.{FitsAll, RoomFor};
-ghost use Rattle.trays.specs.Parts.{cycle_of, Prepared, moved_where, ChosenOk, Lengths, TraysOk, Starts, Laid};
+ghost use Rattle.trays.specs.Parts.{cycle_of, Prepared, moved_where, ChosenOk, Lengths, TraysOk, Starts};
 
 use crate::filling::Targets;
+use crate::pattern::Pattern;
 use crate::{filling, shares, tables};
 use families::Layout;
 use maps::Window;
@@ -15,70 +16,64 @@ use parts::{Chosen, Cycle, NO_SHARE, Share, Sources};
 
 // Writes down what of the first layout a piece is found by.
 pub fn put_sources(
-    numbers: &[u32],
-    layout: Layout,
-    size: u32,
+    pattern: &Pattern,
     window: Window,
     owners: &mut [u8],
     strides: &mut [Stride],
     ranks: &mut [u16],
     shares: &mut [Share],
 )
-    requires laid { Laid layout size window numbers.now }
-    requires room { RoomFor layout size owners.old strides.old }
-    requires ranks { size ≤ length ranks.old }
+    requires after { pattern.now.layout.now.displacement ≤ window.start.0 }
+    requires room { RoomFor pattern.now.layout.now pattern.now.size owners.old strides.old }
+    requires ranks { pattern.now.size ≤ length ranks.old }
     requires shares { length shares.old ≡ 16 }
-    ensures written { Written (cycle_of layout size) window.start.0 (bytes_of window) owners.new strides.new ranks.new shares.new }
-    ensures elements { elements_by (cycle_of layout size) owners.new ≡ elements_of layout size }
+    ensures written { let c = cycle_of pattern.now.layout.now pattern.now.size in
+        Written c window.start.0 (bytes_of window) owners.new strides.new ranks.new shares.new }
+    ensures elements { let t = pattern.now.layout.now in let size = pattern.now.size in
+        elements_by (cycle_of t size) owners.new ≡ elements_of t size }
 {
-    tables::fill_tables(numbers, layout, size, owners, strides);
+    tables::fill_tables(pattern, owners, strides);
     let mut counts = [0u32; 17];
-    tables::fill_ranks(owners, size as usize, &mut counts, ranks);
-    shares::share_out(numbers, layout, size, window, shares);
+    tables::fill_ranks(owners, pattern.size as usize, &mut counts, ranks);
+    shares::share_out(pattern, window, shares);
 }
 
 // Writes down what of the second layout its parts are filled by, by way of a table of N places for its owners.
 pub fn put_targets<const N: usize>(
-    numbers: &[u32],
-    layout: Layout,
-    size: u32,
+    pattern: &Pattern,
     window: Window,
     strides: &mut [Stride],
     shares: &mut [Share],
 )
     requires small { (1 ≤ N) × (N ≤ 65536) }
-    requires laid { Laid layout size window numbers.now }
-    requires fits { FitsAll layout size N }
+    requires after { pattern.now.layout.now.displacement ≤ window.start.0 }
+    requires fits { FitsAll pattern.now.layout.now pattern.now.size N }
     requires strides { length strides.old ≡ N }
     requires shares { length shares.old ≡ 16 }
-    ensures { Prepared layout size window numbers.now strides.new shares.new }
+    ensures { Prepared pattern.now.layout.now pattern.now.size window strides.new shares.new }
 {
     let mut owners = [0u8; N];
-    tables::fill_tables(numbers, layout, size, &mut owners, strides);
-    shares::share_out(numbers, layout, size, window, shares);
+    tables::fill_tables(pattern, &mut owners, strides);
+    shares::share_out(pattern, window, shares);
 }
 
 // Moves what is chosen, by tables of N places, which have one for each of a pattern of each layout.
 pub fn move_by_tables<const N: usize>(
-    numbers1: &[u32],
-    layout1: Layout,
-    size1: u32,
-    numbers2: &[u32],
-    layout2: Layout,
-    size2: u32,
+    first: &Pattern,
+    second: &Pattern,
     window: Window,
     chosen: Chosen,
     tray1: &[u8],
     tray2: &mut [u8],
 )
     requires small { (1 ≤ N) × (N ≤ 65536) }
-    requires first { Laid layout1 size1 window numbers1.now }
-    requires second { Laid layout2 size2 window numbers2.now }
-    requires first_fits { FitsAll layout1 size1 N }
-    requires second_fits { FitsAll layout2 size2 N }
-    requires chosen { ChosenOk chosen layout1.elements layout2.elements }
+    requires first_after { first.now.layout.now.displacement ≤ window.start.0 }
+    requires second_after { second.now.layout.now.displacement ≤ window.start.0 }
+    requires first_fits { FitsAll first.now.layout.now first.now.size N }
+    requires second_fits { FitsAll second.now.layout.now second.now.size N }
+    requires chosen { ChosenOk chosen first.now.layout.now.elements second.now.layout.now.elements }
     requires trays { TraysOk window (length tray1.now) (length tray2.old) }
-    ensures { let L = elements_of layout1 size1 in let M = elements_of layout2 size2 in
+    ensures { let L = elements_of first.now.layout.now first.now.size in let M = elements_of second.now.layout.now second.now.size in
         tray2.new ≡ moved_where L M window.start.0 (bytes_of window) tray1.now chosen tray2.old }
 {
     let mut owners = [0u8; N];
@@ -86,9 +81,7 @@ pub fn move_by_tables<const N: usize>(
     let mut ranks = [0u16; N];
     let mut shares = [NO_SHARE; 16];
     put_sources(
-        numbers1,
-        layout1,
-        size1,
+        first,
         window,
         &mut owners,
         &mut steps,
@@ -97,12 +90,12 @@ pub fn move_by_tables<const N: usize>(
     );
     let mut strides = [NO_STRIDE; N];
     let mut parts = [NO_SHARE; 16];
-    put_targets::<N>(numbers2, layout2, size2, window, &mut strides, &mut parts);
+    put_targets::<N>(second, window, &mut strides, &mut parts);
     let sources = Sources {
         cycle: Cycle {
-            from: layout1.displacement,
-            period: size1,
-            elements: layout1.elements,
+            from: first.layout.displacement,
+            period: first.size,
+            elements: first.layout.elements,
         },
         owners: &owners,
         strides: &steps,
@@ -110,9 +103,7 @@ pub fn move_by_tables<const N: usize>(
         shares: &shares,
     };
     let targets = Targets {
-        numbers: numbers2,
-        layout: &layout2,
-        size: size2,
+        pattern: *second,
         strides: &strides,
         shares: &parts,
     };
@@ -121,39 +112,27 @@ pub fn move_by_tables<const N: usize>(
 
 // Moves what is chosen. An empty window has nothing.
 pub fn move_chosen(
-    layout1: Layout,
-    size1: u32,
-    layout2: Layout,
-    size2: u32,
+    first: &Pattern,
+    second: &Pattern,
     window: Window,
     chosen: Chosen,
     tray1: &[u8],
     tray2: &mut [u8],
 )
-    requires first { Starts layout1 size1 window }
-    requires second { Starts layout2 size2 window }
-    requires chosen { ChosenOk chosen layout1.elements layout2.elements }
+    requires first_after { first.now.layout.now.displacement ≤ window.start.0 }
+    requires second_after { second.now.layout.now.displacement ≤ window.start.0 }
+    requires chosen { ChosenOk chosen first.now.layout.now.elements second.now.layout.now.elements }
     requires lengths { Lengths window (length tray1.now) (length tray2.old) }
-    ensures { let L = elements_of layout1 size1 in let M = elements_of layout2 size2 in
+    ensures { let L = elements_of first.now.layout.now first.now.size in let M = elements_of second.now.layout.now second.now.size in
         tray2.new ≡ moved_where L M window.start.0 (bytes_of window) tray1.now chosen tray2.old }
 {
     if window.end.0 <= window.start.0 {
         return;
     }
-    let mut numbers1 = [0u32; families::ROW];
-    let mut numbers2 = [0u32; families::ROW];
-    families::lay_out(layout1, &mut numbers1);
-    families::lay_out(layout2, &mut numbers2);
-    if tables::fits_all(&numbers1, layout1, size1, 2048)
-        && tables::fits_all(&numbers2, layout2, size2, 2048)
-    {
-        move_by_tables::<2048>(
-            &numbers1, layout1, size1, &numbers2, layout2, size2, window, chosen, tray1, tray2,
-        );
+    if tables::fits_all(first, 2048) && tables::fits_all(second, 2048) {
+        move_by_tables::<2048>(first, second, window, chosen, tray1, tray2);
     } else {
-        move_by_tables::<65536>(
-            &numbers1, layout1, size1, &numbers2, layout2, size2, window, chosen, tray1, tray2,
-        );
+        move_by_tables::<65536>(first, second, window, chosen, tray1, tray2);
     }
 }
 
@@ -174,7 +153,15 @@ pub fn move_tray(
         tray2.new ≡ moved L M window.start.0 (bytes_of window) tray1.now }
 {
     let chosen = parts::every_pair(layout2.elements);
-    move_chosen(layout1, size1, layout2, size2, window, chosen, tray1, tray2);
+    let first = Pattern {
+        layout: &layout1,
+        size: size1,
+    };
+    let second = Pattern {
+        layout: &layout2,
+        size: size2,
+    };
+    move_chosen(&first, &second, window, chosen, tray1, tray2);
 }
 
 // Moves the bytes that element i of the first layout and element j of the second share. Every other place of the second tray stays.
@@ -198,5 +185,13 @@ pub fn move_pair(
         tray2.new ≡ pair_moved L M window.start.0 (bytes_of window) tray1.now i j tray2.old }
 {
     let chosen = parts::one_pair(i, j);
-    move_chosen(layout1, size1, layout2, size2, window, chosen, tray1, tray2);
+    let first = Pattern {
+        layout: &layout1,
+        size: size1,
+    };
+    let second = Pattern {
+        layout: &layout2,
+        size: size2,
+    };
+    move_chosen(&first, &second, window, chosen, tray1, tray2);
 }

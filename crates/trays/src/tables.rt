@@ -1,45 +1,34 @@
 // The tables of a whole layout, by place in its pattern.
 ghost use Rattle.std.specs.Prelude.{◌≡◌, true, replicate};
-ghost use Rattle.families.specs.Decoded.{row_of};
-ghost use Rattle.maps.specs.Selected.{PatternOk};
 ghost use Rattle.parts.specs.Tabled.{Ranked};
 ghost use Rattle.trays.specs.Tables.{NextsOf, FitsAll, RoomFor, Tables, CountedOk};
 
-use families::{Layout, SubfileOffset};
+use crate::pattern::Pattern;
+use families::SubfileOffset;
 use moves::Stride;
 
 // Writes down, by owner, the first place that it has in the second of two periods. Before it the numbers are those of owners without a place.
-pub fn put_nexts(numbers: &[u32], layout: Layout, size: u32, nexts: &mut [usize])
-    requires row { numbers.now ≡ row_of layout.family }
-    requires pattern { PatternOk layout size }
-    requires unused { nexts.old ≡ replicate 17 size }
-    ensures { NextsOf layout size nexts.new }
+pub fn put_nexts(pattern: &Pattern, nexts: &mut [usize])
+    requires unused { nexts.old ≡ replicate 17 pattern.now.size }
+    ensures { NextsOf pattern.now.layout.now pattern.now.size nexts.new }
 {
-    let from = u64::from(layout.displacement);
-    for e in 0..layout.elements {
-        let subfile = maps::subfile_of(layout, size, e, numbers);
+    let from = u64::from(pattern.layout.displacement);
+    for e in 0..pattern.layout.elements {
+        let subfile = maps::subfile_of(pattern.layout, pattern.size, e);
         let byte = subfile.byte(SubfileOffset(0));
-        nexts[e + 1] = size as usize + (byte.0 - from) as usize;
+        nexts[e + 1] = pattern.size as usize + (byte.0 - from) as usize;
     }
 }
 
 // Who has each place, how many places from there on it keeps, and how far its next run is.
-pub fn fill_tables(
-    numbers: &[u32],
-    layout: Layout,
-    size: u32,
-    owners: &mut [u8],
-    strides: &mut [Stride],
-)
-    requires row { numbers.now ≡ row_of layout.family }
-    requires pattern { PatternOk layout size }
-    requires room { RoomFor layout size owners.old strides.old }
-    ensures { Tables layout size owners.new strides.new }
+pub fn fill_tables(pattern: &Pattern, owners: &mut [u8], strides: &mut [Stride])
+    requires room { RoomFor pattern.now.layout.now pattern.now.size owners.old strides.old }
+    ensures { Tables pattern.now.layout.now pattern.now.size owners.new strides.new }
 {
-    families::owners(numbers, layout, 4, owners);
-    let mut nexts = [size as usize; 17];
-    put_nexts(numbers, layout, size, &mut nexts);
-    moves::fill_strides(owners, size as usize, &mut nexts, strides);
+    families::owners(*pattern.layout, 4, owners);
+    let mut nexts = [pattern.size as usize; 17];
+    put_nexts(pattern, &mut nexts);
+    moves::fill_strides(owners, pattern.size as usize, &mut nexts, strides);
 }
 
 // How many places before each are its owner's. `counts` has a zero for each owner.
@@ -56,13 +45,11 @@ pub fn fill_ranks(owners: &[u8], period: usize, counts: &mut [u32], ranks: &mut 
 }
 
 // Whether a table of `room` places has one for every offset of the layout's families and every place of its pattern.
-pub fn fits_all(numbers: &[u32], layout: Layout, size: u32, room: u64) -> bool
-    requires row { numbers.now ≡ row_of layout.family }
-    requires pattern { PatternOk layout size }
-    ensures { result ≡ true → FitsAll layout size room }
+pub fn fits_all(pattern: &Pattern, room: u64) -> bool
+    ensures { result ≡ true → FitsAll pattern.now.layout.now pattern.now.size room }
 {
-    for e in 0..layout.elements {
-        let subfile = maps::subfile_of(layout, size, e, numbers);
+    for e in 0..pattern.layout.elements {
+        let subfile = maps::subfile_of(pattern.layout, pattern.size, e);
         if !runs::fits(&subfile, room) {
             return false;
         }

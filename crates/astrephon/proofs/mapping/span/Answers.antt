@@ -2,7 +2,7 @@
 use Prim.Native.Nat.{ℕ}
 use Rattle.std.proofs.lemmas.Result.{err_from_is_err_and}
 use Rattle.openings.specs.Offsets.{interval_tests}
-use Rattle.openings.proofs.Opens.{opened, tests_refused, tests_passed}
+use Rattle.openings.proofs.Opens.{lent, opened, tests_refused, tests_passed}
 use Rattle.astrephon.specs.Maps.{span_of}
 use Rattle.astrephon.proofs.Mappings.{span_at}
 use Rattle.astrephon.proofs.mapping.span.Goals as goal
@@ -16,15 +16,10 @@ returns-in_err-check_range c =
     let p = err_from_is_err_and r.result r.ensures.1 in
     rw (p.1, p.2) (tests_refused a.sheet.now a.element O.1 O.0 (λ (d : ℕ). interval_tests d a.a.0 a.z.0) c.in_err-check_range.field-0.0 c.in_err-check_range.ensures _)
 
-pub file_rank-first-requires : goal.file_rank-first-requires
-file_rank-first-requires c = let O = c.in_ok-opening.ensures in (opened _ _ O.1 O.0).ok
-
-pub file_rank-last-requires : goal.file_rank-last-requires
-file_rank-last-requires c = let O = c.in_ok-opening.ensures in (opened _ _ O.1 O.0).ok
-
 pub returns : goal.returns
 returns c =
     let a = c.args in
     let O = c.in_ok-opening.ensures in
+    let S = c.subfile-subfile.ensures in
     let passes = tests_passed a.sheet.now a.element O.1 O.0 (λ (d : ℕ). interval_tests d a.a.0 a.z.0) c.in_ok-check_range.ensures in
-    span_at (opened _ _ O.1 O.0) a.a.0 a.z.0 passes _ _ c.file_rank-first.ensures c.file_rank-last.ensures
+    span_at (lent c.in_ok-opening.opening S.selection S.families (opened _ _ O.1 O.0)) a.a.0 a.z.0 passes _ _ c.rank-first.ensures c.rank-last.ensures

@@ -2,7 +2,7 @@
 use mathlib.Core.Path.{refl, sym}
 use Rattle.openings.proofs.Orders.{left_held}
 use Rattle.astrephon.specs.Moves.{move_of}
-use Rattle.astrephon.proofs.TrayMoves.{moved_refused, move_asks, moved_done}
+use Rattle.astrephon.proofs.TrayMoves.{moved_refused, move_window, move_asks, moved_done}
 use Rattle.astrephon.proofs.moving.move_tray.Goals as goal
 
 pub returns-in_err-both-clause-leaves : goal.returns-in_err-both-clause-leaves
@@ -12,11 +12,14 @@ returns-in_err-both-clause-leaves c = sym (left_held c.args.tray2.now _ (c.in_er
 pub returns-in_err-check_trays-clause-leaves : goal.returns-in_err-check_trays-clause-leaves
 returns-in_err-check_trays-clause-leaves c = let e = c.in_err-check_trays in moved_refused _ _ c.in_ok-both.ensures _ _ _ _ e.field-0.0 e.ensures
 
+pub invariant_of-window : goal.invariant_of-window
+invariant_of-window c = let a = c.args in record { ok = move_window _ _ c.in_ok-both.ensures a.a.0 a.b.0 a.tray1.now a.tray2.now c.in_ok-check_trays.ensures }
+
 pub move_tray-requires : goal.move_tray-requires
 move_tray-requires c =
     let a = c.args in
-    let K = move_asks _ _ c.in_ok-both.ensures a.a.0 a.b.0 a.tray1.now a.tray2.now c.in_ok-check_trays.ensures _ refl refl in
-    record { fact_1 = K.0; fact_2 = search (K.0, K.1.0); fact_3 = K.1.1 }
+    let asks = move_asks _ _ c.in_ok-both.ensures a.a.0 a.b.0 a.tray1.now a.tray2.now c.in_ok-check_trays.ensures in
+    record { first = (asks _ refl refl).0; second = search (asks, refl); lengths = (asks _ refl refl).1.1 }
 
 pub returns-clause-leaves : goal.returns-clause-leaves
 returns-clause-leaves c = moved_done _ _ c.in_ok-both.ensures _ _ _ _ c.in_ok-check_trays.ensures _ c.move_tray.ensures

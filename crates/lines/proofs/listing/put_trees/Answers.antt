@@ -1,21 +1,28 @@
 -- `put_trees` meets its contract: after e turns, the lines of e elements are put. Assumes nothing.
-use Prim.Native.Nat.{◌≤◌}
-use lib.ListN.{length}
 use native.Mathlib.Omega.{arith}
-use borrow.Author.Rules.{rules}
-use Rattle.lines.proofs.Lines.{lined_none, lined_room, lined_more, lined_all}
+use Rattle.lines.proofs.Lines.{lent_ruled, lent_sound, lent_some, lined_none, lined_room, lined_more, lined_all}
 use Rattle.lines.proofs.listing.put_trees.Goals as goal
 
 pub loop-e-init : goal.loop-e-init
 loop-e-init c = lined_none _ _ _
 
+pub siblings-siblings-requires-clause-ruled : goal.siblings-siblings-requires-clause-ruled
+siblings-siblings-requires-clause-ruled c = lent_ruled c.requires.listable (omega arith)
+
+pub put_tree-end-requires-clause-sound : goal.put_tree-end-requires-clause-sound
+put_tree-end-requires-clause-sound c = rw c.siblings-siblings.ensures (lent_sound c.requires.listable (omega arith))
+
+pub put_tree-end-requires-clause-some : goal.put_tree-end-requires-clause-some
+put_tree-end-requires-clause-some c = rw c.siblings-siblings.ensures (lent_some c.requires.listable (omega arith))
+
+pub put_tree-end-requires-clause-spans : goal.put_tree-end-requires-clause-spans
+put_tree-end-requires-clause-spans c = rw c.siblings-siblings.ensures (c.requires.listable.spans _ (omega arith))
+
 pub put_tree-end-requires-clause-room : goal.put_tree-end-requires-clause-room
-put_tree-end-requires-clause-room c = omega (arith, lined_room _ _ _ c.requires.listable c.loop-e.invariant c.loop-e-test.true, c.loop-e.auto.text)
+put_tree-end-requires-clause-room c = omega (arith, lined_room _ _ _ c.requires.listable c.loop-e.invariant (omega arith), c.loop-e.auto.text)
 
 pub loop-e-preserved : goal.loop-e-preserved
-loop-e-preserved c = lined_more _ _ _ c.requires.listable c.loop-e.invariant c.loop-e-test.true c.put_tree-end.ensures
+loop-e-preserved c = lined_more _ _ _ c.requires.listable c.loop-e.invariant (omega arith) (rw c.siblings-siblings.ensures at c.put_tree-end.ensures)
 
 pub returns : goal.returns
-returns c =
-    let long : c.args.layout.elements ≤ length c.args.layout.element = search rules in
-    lined_all _ _ _ c.requires.listable c.loop-e.invariant (omega arith) long
+returns c = lined_all _ _ _ c.requires.listable c.loop-e.invariant (omega arith)

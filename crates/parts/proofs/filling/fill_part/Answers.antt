@@ -16,7 +16,7 @@ here : (c : After-piece_at-piece) →
     let sources = args.sources.now in
     let track = args.track.now in
     let subfile = track.subfile in
-    AtPiece subfile.selection (belongs subfile.selection subfile.numbers.now) track.strides.now args.window.start.0 (bytes_of args.window)
+    AtPiece subfile.selection (belongs subfile.selection subfile.families.now) track.strides.now args.window.start.0 (bytes_of args.window)
     sources.cycle sources.owners.now sources.strides.now sources.ranks.now sources.shares.now args.only
     args.tray.now args.part.now c.loop-walk.part c.loop-walk.walk c.run_here-run.result c.piece_at-piece.result
 here c =

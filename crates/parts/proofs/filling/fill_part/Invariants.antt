@@ -9,7 +9,7 @@ abbrev pub invariant-loop-walk : goal.invariant-loop-walk
 invariant-loop-walk l =
     let L = elements_by l.sources.cycle l.sources.owners.now in
     let a = l.window.start.0 in
-    Renewing l.track.subfile.selection (belongs l.track.subfile.selection l.track.subfile.numbers.now) a (bytes_of l.window) (takes L l.only) (in_tray L a (bytes_of l.window) l.tray) l.initial.part l.part l.walk
+    Renewing l.track.subfile.selection (belongs l.track.subfile.selection l.track.subfile.families.now) a (bytes_of l.window) (takes L l.only) (in_tray L a (bytes_of l.window) l.tray) l.initial.part l.part l.walk
 
 abbrev pub decreases-loop-walk : goal.decreases-loop-walk
 decreases-loop-walk l = l.bytes - l.walk.at

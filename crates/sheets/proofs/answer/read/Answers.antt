@@ -1,18 +1,20 @@
 -- `read` meets its contract: what was read is the layout of the sheet's elements, and that is judged. Assumes nothing.
 use native.Mathlib.Omega.{arith}
 use mathlib.Core.Path.{◌≡◌, sym, ◌∙◌}
+use Prim.Native.Nat.{ℕ}
 use Rattle.sheets.specs.Sheet.{elements_of}
-use Rattle.sheets.specs.Steps.{start, WrittenAll}
+use Rattle.sheets.specs.Steps.{start, WrittenAll, layout_from}
 use Rattle.sheets.specs.Refusals.{got}
 use Rattle.sheets.specs.Bytes.{le32}
-use Rattle.families.specs.Decoded.{empty_row}
+use lib.ListN.{replicate}
+use Rattle.families.specs.Decoded.{no_family}
 use Rattle.families.specs.Flat.{layout_of}
 use Rattle.sheets.proofs.Shapes.{SheetRead, sheet_read, header_inside}
 use Rattle.std.proofs.lemmas.Result.{err_from_is_err_and}
 use Rattle.sheets.proofs.SheetSteps.{ProgressGot, progress_got, progress_refused}
-use Rattle.sheets.proofs.Answers.{answer_refused, answer_got, layout_is, row_is, row_used, ends_some, ends_most, ok_ended, judged_is, end_is}
+use Rattle.sheets.proofs.Answers.{answer_refused, answer_got, layout_is, ends_some, ends_most, ok_ended, judged_is, end_is}
 use Rattle.sheets.proofs.answer.read.Goals as goal
-use Rattle.sheets.proofs.answer.read.Goals.{After-struct_known-1, In_ok-all}
+use Rattle.sheets.proofs.answer.read.Goals.{In_ok-all}
 
 -- what reading the records answered: the sheet's elements
 got-at : (c : In_ok-all)
@@ -23,15 +25,13 @@ got-at c = progress_got _ _ _ c.in_ok-all.ensures.progress
 sheet-at : (c : In_ok-all) → SheetRead c.args.sheet.now (got-at c).elements
 sheet-at c = sheet_read _ _ (got-at c).is
 
-written_at : (c : In_ok-all) → WrittenAll (got (got-at c).elements) empty_row c.read_records.new.numbers
-written_at c = rw (got-at c).is at c.in_ok-all.ensures.row
+written_at : (c : In_ok-all) → WrittenAll (got (got-at c).elements) (replicate 256 no_family) c.read_records.new.families
+written_at c = rw (got-at c).is at c.in_ok-all.ensures.written
 
 -- and the layout that they are
-layout-at : (c : After-struct_known-1) → c.decoded-layout.result ≡ layout_of (le32 c.args.sheet.now 4) (got-at (goal.at.overflow_cast-all c).In_ok-all).elements
-layout-at c =
-    let p = (goal.at.overflow_cast-all c).In_ok-all in
-    let S = sheet-at p in
-    c.decoded-layout.ensures ∙ rw c.le32_at-displacement.ensures (layout_is _ S.most S.room _ _ _ (got-at p).progress (written_at p))
+layout-at : (c : In_ok-all) (d : ℕ) → d ≡ le32 c.args.sheet.now 4
+    → layout_from d c.in_ok-all.all c.read_records.new.families ≡ layout_of (le32 c.args.sheet.now 4) (got-at c).elements
+layout-at c d e = rw e (layout_is _ (sheet-at c).most _ _ _ (got-at c).progress (written_at c))
 
 pub returns-in_err-all : goal.returns-in_err-all
 returns-in_err-all c =
@@ -41,21 +41,10 @@ returns-in_err-all c =
 pub le32_at-displacement-requires : goal.le32_at-displacement-requires
 le32_at-displacement-requires c = omega (arith, header_inside _ (sheet-at c).header)
 
-pub decoded-layout-requires-clause-used : goal.decoded-layout-requires-clause-used
-decoded-layout-requires-clause-used c =
-    let S = sheet-at (goal.at.decoded-layout-requires-clause-used c).In_ok-all in
-    row_used _ S.most S.room _ _ (got-at (goal.at.decoded-layout-requires-clause-used c).In_ok-all).progress (written_at (goal.at.decoded-layout-requires-clause-used c).In_ok-all)
-
 pub overflow_cast-all : goal.overflow_cast-all
 overflow_cast-all c =
     let p = (goal.at.overflow_cast-all c).In_ok-all in
     omega (arith, end_is _ _ (got-at p).progress, ends_most _ (sheet-at p).each)
-
-pub judge-requires-clause-row : goal.judge-requires-clause-row
-judge-requires-clause-row c =
-    let p = (goal.at.judge-requires-clause-row c).In_ok-all in
-    let S = sheet-at p in
-    rw (layout-at (goal.at.judge-requires-clause-row c).After-struct_known-1) (row_is (got-at p).elements S.most S.room _ _ (written_at p))
 
 pub judge-requires-clause-least : goal.judge-requires-clause-least
 judge-requires-clause-least c =
@@ -68,12 +57,14 @@ judge-requires-clause-most c =
     omega (arith, end_is _ _ (got-at p).progress, ends_most _ (sheet-at p).each)
 
 pub judge-requires-clause-ok : goal.judge-requires-clause-ok
+unfolding layout_from
 judge-requires-clause-ok c =
     let p = (goal.at.judge-requires-clause-ok c).In_ok-all in
     let S = sheet-at p in
-    rw (layout-at (goal.at.judge-requires-clause-ok c).After-struct_known-1) (ok_ended _ (got-at p).elements _ (end_is _ _ (got-at p).progress) S.each S.least S.most S.room)
+    rw (layout-at p _ c.le32_at-displacement.ensures) (ok_ended _ (got-at p).elements _ (end_is _ _ (got-at p).progress) S.each S.least S.most S.room)
 
 pub returns : goal.returns
+unfolding layout_from
 returns c =
     let p = (goal.at.returns c).In_ok-all in
-    c.judge.ensures ∙ rw (layout-at (goal.at.returns c).After-struct_known-1) (judged_is _ _ (sheet-at p).each ∙ sym (answer_got _ _ (got-at p).is))
+    c.judge.ensures ∙ rw (layout-at p _ c.le32_at-displacement.ensures) (judged_is _ _ (sheet-at p).each ∙ sym (answer_got _ _ (got-at p).is))

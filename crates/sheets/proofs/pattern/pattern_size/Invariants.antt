@@ -1,5 +1,5 @@
 use Rattle.sheets.proofs.Summing.{Summed}
 use Rattle.sheets.proofs.pattern.pattern_size.Given as goal
 
-abbrev pub invariant-loop-element : goal.invariant-loop-element
-invariant-loop-element l = Summed l.fn.layout l.element-index l.sum
+abbrev pub invariant-loop-e : goal.invariant-loop-e
+invariant-loop-e l = Summed l.fn.layout l.e l.sum

@@ -2,7 +2,7 @@
 use mathlib.Core.Path.{◌≡◌, refl, ap, ap₂, ◌∙◌}
 use native.Mathlib.Omega.{arith}
 use borrow.Author.Rules.{rules}
-use Prim.Native.Nat.{ℕ, suc, ◌+◌, ◌-◌, ◌*◌, ◌/◌, ◌≤◌}
+use Prim.Native.Nat.{ℕ, suc, ◌+◌, ◌-◌, ◌/◌, ◌≤◌}
 use mathlib.Core.List.{List, ◌++◌}
 use lib.ListN.{length, take, drop}
 use borrow.Rule.Slice.PartMut.{same_len_mid}
@@ -15,10 +15,11 @@ use Rattle.sheets.proofs.SiblingSteps.{FirstRead, first_read, siblings_refused, 
 use Rattle.sheets.proofs.FamilySteps.{taken, KidsRead, kids_read, children_deep, families_read, family_step, family_written, spanned}
 use Rattle.sheets.proofs.Lent.{room_behind}
 use Rattle.sheets.specs.Records.{family_record, last_of}
+use Rattle.families.specs.declared.Family.{Family}
 use Rattle.families.specs.Flat.{total}
 use Rattle.sheets.specs.Steps.{Stepped, Written}
 use Rattle.sheets.proofs.trees.+read_family_read_siblings.Goals as goal
-use Rattle.sheets.proofs.trees.+read_family_read_siblings.Goals.{read_family-After-read_siblings, read_family-After-slice_known-1, read_family-In_ok-kids, read_family-In_ok-check_record, read_siblings-After-read_family-arg-1, read_siblings-After-read_family, read_siblings-In_ok-first, read_siblings-Start}
+use Rattle.sheets.proofs.trees.+read_family_read_siblings.Goals.{read_family-After-read_siblings, read_family-In_ok-kids, read_family-In_ok-check_record, read_siblings-After-read_family, read_siblings-In_ok-first}
 
 -- the family record at hand has no fault
 taken_at : (t : ℕ) (c : read_family-In_ok-check_record t)
@@ -37,26 +38,22 @@ kids-at : (t : ℕ) (c : read_family-In_ok-kids t)
     KidsRead a.sheet.now a.levels a.limits a.at c.in_ok-kids.kids
 kids-at t c = kids_read _ _ _ _ (omega arith) c.in_ok-check_record.ensures _ (kids-step t c)
 
--- the row with the children's numbers in it, as long as it was
-abbrev kids-row : (t : ℕ) (c : read_family-After-read_siblings t) → List ℕ
-kids-row t c =
-    let row = c.args.numbers.now in
-    take 6 row ++ (c.read_siblings.new.numbers ++ drop (length row - 6) (drop 6 row))
+-- the families with the children among them, as many as there were
+abbrev kids-room : (t : ℕ) (c : read_family-After-read_siblings t) → List Family
+kids-room t c =
+    let fs = c.args.families.now in
+    take 1 fs ++ (c.read_siblings.new.families ++ drop (length fs - 1) (drop 1 fs))
 
-kids-row-long : (t : ℕ) (c : read_family-After-read_siblings t)
-    → length (kids-row t c) ≡ length c.args.numbers.now
-kids-row-long t c =
-    let row = c.args.numbers.now in
-    same_len_mid 6 (length row - 6) row c.read_siblings.new.numbers (search rules)
+kids-room-long : (t : ℕ) (c : read_family-After-read_siblings t) → length (kids-room t c) ≡ length c.args.families.now
+kids-room-long t c =
+    let fs = c.args.families.now in
+    same_len_mid 1 (length fs - 1) fs c.read_siblings.new.families (search rules)
 
-kids-row-room : (t : ℕ) (c : read_family-After-read_siblings t) → 6 ≤ length (kids-row t c)
-kids-row-room t c = omega (arith, kids-row-long t c, (taken _ _ _ _ (omega arith) c.in_ok-check_record.ensures).room)
-
--- and they stand behind room for the family's own
+-- and they stand behind a place for the family itself
 kids-written : (t : ℕ) (c : read_family-After-read_siblings t)
     → let a = c.args in
-    Written (children a.sheet.now (a.levels - 1) a.limits a.at) (take (length a.numbers.now - 6) (drop 6 a.numbers.now)) c.read_siblings.new.numbers
-kids-written t c = rw (c.inner_limits.ensures, c.family_record-f.ensures.held) at c.read_siblings.ensures.row
+    Written (children a.sheet.now (a.levels - 1) a.limits a.at) (take (length a.families.now - 1) (drop 1 a.families.now)) c.read_siblings.new.families
+kids-written t c = rw (c.inner_limits.ensures, c.family_record-f.ensures.held) at c.read_siblings.ensures.written
 
 pub read_family-returns-in_err-check_record : goal.read_family-returns-in_err-check_record
 read_family-returns-in_err-check_record t c =
@@ -64,7 +61,7 @@ read_family-returns-in_err-check_record t c =
     let p = err_from_is_err_and c.from_residual.result c.from_residual.ensures.1 in
     let is = fault_read a.sheet.now a.levels a.limits 1 a.at (omega arith) (omega arith) c.in_err-check_record.field-0.0 c.in_err-check_record.ensures in
     let on = refused_on _ _ _ c.in_err-check_record.field-0.0 is _ _ in
-    rw (p.1, p.2) (record { step = on.0; row = on.1 })
+    rw (p.1, p.2) (record { step = on.0; written = on.1 })
 
 pub read_family-family_record-f-requires : goal.read_family-family_record-f-requires
 read_family-family_record-f-requires t c = family_inside _ _ (taken_at t c).head
@@ -83,8 +80,8 @@ read_family-read_siblings-requires t c =
     let T = taken_at t (goal.at.read_family-read_siblings-requires t c).In_ok-check_record in
     let e = c.family_record-f.ensures in
     let deep : c.args.levels ≤ 1 → c.family_record-f.result.children ≡ 0 = rw e.held T.deep in
-    let room = room_behind c.args.numbers.now c.args.limits.room 1 c.requires.row T.room c.requires.room in
-    (omega (arith, e.children, c.requires.some, c.decreases), (family_inside _ _ T.head, (children_deep _ _ e.children deep, rw c.inner_limits.ensures room)))
+    let left = room_behind c.args.families.now c.args.limits.room 1 c.requires.long in
+    (omega (arith, e.children, c.requires.some, c.decreases), (family_inside _ _ T.head, (children_deep _ _ e.children deep, rw c.inner_limits.ensures (omega (arith, c.requires.room), left))))
 
 pub read_family-returns-in_err-kids : goal.read_family-returns-in_err-kids
 read_family-returns-in_err-kids t c =
@@ -93,13 +90,15 @@ read_family-returns-in_err-kids t c =
     let e = rw (c.inner_limits.ensures, c.family_record-f.ensures.held) at c.in_err-kids.ensures.step in
     let is = children_refused a.sheet.now a.levels a.limits 1 a.at (omega arith) (omega arith) c.in_ok-check_record.ensures _ _ (step_refused _ _ c.in_err-kids.field-0.0 _ e) in
     let on = refused_on _ _ _ c.in_err-kids.field-0.0 is _ _ in
-    rw (p.1, p.2) (record { step = on.0; row = on.1 })
+    rw (p.1, p.2) (record { step = on.0; written = on.1 })
 
 pub read_family-overflow_cast-f : goal.read_family-overflow_cast-f
 read_family-overflow_cast-f t c = let K = kids-at t (goal.at.read_family-overflow_cast-f t c).In_ok-kids in omega (arith, K.place, K.room)
 
-pub read_family-slice_bounds-put_family-end : goal.read_family-slice_bounds-put_family-end
-read_family-slice_bounds-put_family-end t c = kids-row-room t (goal.at.read_family-slice_bounds-put_family-end t c).After-read_siblings
+pub read_family-bounds-families-0 : goal.read_family-bounds-families-0
+read_family-bounds-families-0 t c =
+    let p = goal.at.read_family-bounds-families-0 t c in
+    omega (arith, kids-room-long t p.After-read_siblings, (taken_at t p.In_ok-check_record).room)
 
 pub read_family-last_byte-requires-clause-some : goal.read_family-last_byte-requires-clause-some
 read_family-last_byte-requires-clause-some t c =
@@ -117,10 +116,10 @@ read_family-returns t c =
     let last : c.last_byte.result ≡ last_of (family_record a.sheet.now a.at) = rw f at c.last_byte.ensures.last in
     let span : (c.in_ok-kids.kids.place - a.at) / 22 ≡ suc (total K.kids) = ap (λ (x : ℕ). (x - a.at) / 22) K.place ∙ families_read a.at (suc (total K.kids)) in
     let fine = c.in_ok-check_record.ensures in
-    let room : 6 ≤ length a.numbers.now = omega (arith, c.requires.row, (taken_at t (goal.at.read_family-returns t c).In_ok-check_record).room) in
+    let room : 1 ≤ length a.families.now = omega (arith, c.requires.long, (taken_at t (goal.at.read_family-returns t c).In_ok-check_record).room) in
     record {
       step = rw last (family_step _ _ _ _ c.requires.some fine _ K);
-      row = family_written _ _ _ _ c.requires.some fine _ K a.numbers.now c.read_siblings.new.numbers c.put_family.new.six _ _ room refl (kids-written t (goal.at.read_family-returns t c).After-read_siblings) c.put_family.ensures (ap₂ spanned f span);
+      written = family_written _ _ _ _ c.requires.some fine _ K a.families.now c.read_siblings.new.families _ _ room refl (kids-written t (goal.at.read_family-returns t c).After-read_siblings) (ap₂ spanned f span);
     }
 
 -- the first family was read
@@ -133,20 +132,20 @@ first-few : (t : ℕ) (c : read_siblings-In_ok-first t) → suc (total (first_at
 first-few t c =
     omega (arith, (first_at t c).room)
 
--- the row with it is as long as it was, and has room for it
-first-row-long : (t : ℕ) (c : read_siblings-After-read_family t)
-    → length c.read_family.new.numbers ≡ length c.args.numbers.now
-first-row-long t c = search rules
+-- the room with it is as long as it was
+first-long : (t : ℕ) (c : read_siblings-After-read_family t)
+    → length c.read_family.new.families ≡ length c.args.families.now
+first-long t c = search rules
 
-first-row-room : (t : ℕ) (c : read_siblings-In_ok-first t)
+first-fits : (t : ℕ) (c : read_siblings-In_ok-first t)
     →
-    6 * ((c.in_ok-first.first.place - c.args.at) / 22) ≤ length c.read_family.new.numbers
-first-row-room t c =
-    let long : length c.read_family.new.numbers ≡ length c.args.numbers.now = search rules in
+    (c.in_ok-first.first.place - c.args.at) / 22 ≤ length c.read_family.new.families
+first-fits t c =
+    let long : length c.read_family.new.families ≡ length c.args.families.now = search rules in
     omega (arith, span_is _ _ _ _ _ _ (first_at t c), (first_at t c).room, long)
 
 pub read_siblings-returns-then-count-eq0 : goal.read_siblings-returns-then-count-eq0
-read_siblings-returns-then-count-eq0 t c = let on = none_on _ _ _ _ _ _ c.if-count-eq0.true in record { step = on.0; row = on.1 }
+read_siblings-returns-then-count-eq0 t c = let on = none_on _ _ _ _ _ _ c.if-count-eq0.true in record { step = on.0; written = on.1 }
 
 pub read_siblings-returns-in_err-first : goal.read_siblings-returns-in_err-first
 read_siblings-returns-in_err-first t c =
@@ -154,7 +153,7 @@ read_siblings-returns-in_err-first t c =
     let p = err_from_is_err_and c.from_residual.result c.from_residual.ensures.1 in
     let is = siblings_refused _ _ _ _ a.count _ _ (omega arith) (omega arith) (step_refused _ _ c.in_err-first.field-0.0 _ c.in_err-first.ensures.step) in
     let on = refused_on _ _ _ c.in_err-first.field-0.0 is _ _ in
-    rw (p.1, p.2) (record { step = on.0; row = on.1 })
+    rw (p.1, p.2) (record { step = on.0; written = on.1 })
 
 pub read_siblings-overflow_cast-others : goal.read_siblings-overflow_cast-others
 read_siblings-overflow_cast-others t c = let O = first_at t (goal.at.read_siblings-overflow_cast-others t c).In_ok-first in omega (arith, span_is _ _ _ _ _ _ O, O.room)
@@ -162,14 +161,14 @@ read_siblings-overflow_cast-others t c = let O = first_at t (goal.at.read_siblin
 pub read_siblings-overflow_sub-others : goal.read_siblings-overflow_sub-others
 read_siblings-overflow_sub-others t c = let O = first_at t (goal.at.read_siblings-overflow_sub-others t c).In_ok-first in omega (arith, span_is _ _ _ _ _ _ O, O.room)
 
-pub read_siblings-offset_bounds-numbers-next : goal.read_siblings-offset_bounds-numbers-next
-read_siblings-offset_bounds-numbers-next t c = let O = first_at t (goal.at.read_siblings-offset_bounds-numbers-next t c).In_ok-first in omega (arith, span_is _ _ _ _ _ _ O, first-few t (goal.at.read_siblings-offset_bounds-numbers-next t c).In_ok-first)
+pub read_siblings-offset_bounds-families-span : goal.read_siblings-offset_bounds-families-span
+read_siblings-offset_bounds-families-span t c = let O = first_at t (goal.at.read_siblings-offset_bounds-families-span t c).In_ok-first in omega (arith, span_is _ _ _ _ _ _ O, first-few t (goal.at.read_siblings-offset_bounds-families-span t c).In_ok-first)
 
 pub read_siblings-slice_bounds-read_siblings-count : goal.read_siblings-slice_bounds-read_siblings-count
-read_siblings-slice_bounds-read_siblings-count t c = first-row-room t (goal.at.read_siblings-slice_bounds-read_siblings-count t c).In_ok-first
+read_siblings-slice_bounds-read_siblings-count t c = first-fits t (goal.at.read_siblings-slice_bounds-read_siblings-count t c).In_ok-first
 
 pub read_siblings-slice_bounds-read_siblings-start : goal.read_siblings-slice_bounds-read_siblings-start
-read_siblings-slice_bounds-read_siblings-start t c = first-row-room t (goal.at.read_siblings-slice_bounds-read_siblings-start t c).In_ok-first
+read_siblings-slice_bounds-read_siblings-start t c = first-fits t (goal.at.read_siblings-slice_bounds-read_siblings-start t c).In_ok-first
 
 pub read_siblings-read_siblings-requires : goal.read_siblings-read_siblings-requires
 read_siblings-read_siblings-requires t c =
@@ -177,9 +176,9 @@ read_siblings-read_siblings-requires t c =
     let O = first_at t (goal.at.read_siblings-read_siblings-requires t c).In_ok-first in
     let k = (c.in_ok-first.first.place - a.at) / 22 in
     let fits : k ≤ a.limits.room = omega (arith, span_is _ _ _ _ _ _ O, O.room) in
-    let long : length c.read_family.new.numbers ≡ 6 * a.limits.room = first-row-long t (goal.at.read_siblings-read_siblings-requires t c).After-read_family ∙ c.requires.row in
-    let room = room_behind c.read_family.new.numbers a.limits.room k long fits c.requires.room in
-    (omega (arith, c.decreases), (O.inside, (omega arith, room)))
+    let long : length c.read_family.new.families ≡ a.limits.room = first-long t (goal.at.read_siblings-read_siblings-requires t c).After-read_family ∙ c.requires.long in
+    let room = room_behind c.read_family.new.families a.limits.room k long in
+    (omega (arith, c.decreases), (O.inside, (omega arith, (omega (arith, fits, c.requires.room), room))))
 
 pub read_siblings-returns : goal.read_siblings-returns
 read_siblings-returns t c =
@@ -187,5 +186,5 @@ read_siblings-returns t c =
     let r = c.read_siblings in
     record {
       step = rest_step _ _ _ _ _ _ O _ r.ensures.step;
-      row = rest_written _ _ _ _ _ _ O c.args.numbers.now c.read_family.new.numbers r.new.numbers _ _ refl refl c.read_family.ensures.row r.ensures.row;
+      written = rest_written _ _ _ _ _ _ O c.args.families.now c.read_family.new.families r.new.families _ refl c.read_family.ensures.written r.ensures.written;
     }

@@ -4,4 +4,4 @@ use Rattle.trays.proofs.moving.move_chosen.Goals as goal
 
 pub returns-then-window : goal.returns-then-window
 returns-then-window c =
-    moved_empty c.requires.first c.requires.second c.args.tray1.now _ c.args.chosen c.requires.lengths.second c.if-window.true
+    moved_empty _ _ _ c.args.second.now.ok c.args.window c.requires.second_after c.args.tray1.now _ c.args.chosen c.requires.lengths.second c.if-window.true

@@ -4,4 +4,4 @@ use Rattle.trays.proofs.moving.put_targets.Goals as goal
 
 pub returns : goal.returns
 returns g c =
-    targets_noted c.requires.laid.starts c.fill_tables.ensures c.requires.laid.laid c.share_out.ensures
+    targets_noted c.args.pattern.now.ok c.fill_tables.ensures c.args.window c.requires.after c.share_out.ensures

@@ -6,5 +6,5 @@ use Rattle.trays.proofs.shares.share_of.Goals as goal
 
 pub overflow_sub-result : goal.overflow_sub-result
 overflow_sub-result c =
-    let more = count_mono (belongs c.args.subfile.now.selection c.args.subfile.now.numbers.now) _ _ c.args.window.ok.ordered in
+    let more = count_mono (belongs c.args.subfile.now.selection c.args.subfile.now.families.now) _ _ c.args.window.ok.ordered in
     omega (arith, c.rank-before.ensures, c.rank-last.ensures, more)

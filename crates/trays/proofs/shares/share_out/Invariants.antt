@@ -5,4 +5,6 @@ use Rattle.trays.proofs.shares.share_out.Given as goal
 
 abbrev pub invariant-loop-e : goal.invariant-loop-e
 invariant-loop-e l =
-    Allotted (elements_of l.layout l.size) l.layout.displacement l.size l.window.start.0 (bytes_of l.window) l.initial.shares l.shares l.e l.at
+    let t = l.pattern.layout.now in
+    let size = l.pattern.size in
+    Allotted (elements_of t size) t.displacement size l.window.start.0 (bytes_of l.window) l.initial.shares l.shares l.e l.at

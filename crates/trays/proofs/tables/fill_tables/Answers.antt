@@ -3,8 +3,8 @@ use Rattle.trays.proofs.Owners.{owners_nexts, owners_tables}
 use Rattle.trays.proofs.tables.fill_tables.Goals as goal
 
 pub fill_strides-requires-clause-nexts : goal.fill_strides-requires-clause-nexts
-fill_strides-requires-clause-nexts c = owners_nexts c.requires.pattern c.requires.room.held _ c.owners.ensures c.put_nexts.ensures
+fill_strides-requires-clause-nexts c = owners_nexts c.args.pattern.now.ok c.requires.room.held _ c.owners.ensures c.put_nexts.ensures
 
 pub returns : goal.returns
 returns c =
-    owners_tables c.requires.pattern c.requires.room.held _ c.owners.ensures c.put_nexts.ensures c.fill_strides.ensures
+    owners_tables c.args.pattern.now.ok c.requires.room.held _ c.owners.ensures c.put_nexts.ensures c.fill_strides.ensures

@@ -4,8 +4,8 @@ use Rattle.trays.proofs.tables.fits_all.Goals as goal
 
 pub loop-e-preserved : goal.loop-e-preserved
 loop-e-preserved c =
-    rooming_next c.requires.pattern c.loop-e.invariant c.loop-e-test.true _ c.subfile_of-subfile.ensures.selection _ c.subfile_of-subfile.ensures.row
+    rooming_next c.args.pattern.now.ok c.loop-e.invariant c.loop-e-test.true _ c.subfile_of-subfile.ensures.selection _ c.subfile_of-subfile.ensures.families
     _ c.fits.ensures c.if-not-fits.false
 
 pub returns : goal.returns
-returns c = λ _. rooming_end c.requires.pattern c.loop-e.invariant c.loop-e-test.false
+returns c = λ _. rooming_end c.args.pattern.now.ok c.loop-e.invariant c.loop-e-test.false
