@@ -15,7 +15,7 @@ use Rattle.openings.specs.declared.Refusal.{Refusal}
 use Rattle.openings.specs.declared.Sheets.{Sheets}
 use Rattle.openings.specs.Said.{Said, done}
 use Rattle.openings.specs.Refusals.{unless_sheets, unless_fault}
-use Rattle.openings.specs.Offsets.{offsets_of, pair_tests, both_from}
+use Rattle.openings.specs.Offsets.{LIMIT, offsets_of, pair_tests, both_from}
 use Rattle.openings.specs.Buffers.{unless_trays}
 use Rattle.openings.specs.Openings.{Passes, Refuses, accepted_as}
 use Rattle.openings.proofs.Orders.{left_held, left_written}
@@ -62,20 +62,21 @@ module _ (xs ys : List ℕ) {o : Sheets} (S : Passes (unless_sheets (read_sheet 
 
   -- ---- they are fine
   module _ (T : Passes (trays (accepted_as o.one) (accepted_as o.two))) where
+    fine : (both_from (accepted_as o.one) (accepted_as o.two) ≤ a) × (a ≤ b) × (b ≤ LIMIT) × (length t ≡ b - a) × (length held ≡ b - a)
+    fine = let K = trays_known (both_from (accepted_as o.one) (accepted_as o.two)) a b (length t) (length held) (passes_none _ T) in (K.1, K.0, K.2, K.3, K.4)
+
     -- a window that the engine takes, and what it asks
     pub move_window : WindowOk a b
-    move_window = let K = trays_known (both_from (accepted_as o.one) (accepted_as o.two)) a b (length t) (length held) (passes_none _ T) in record { ordered = K.0; near = K.2 }
+    move_window = record { ordered = fine.1; near = fine.2 }
 
-    pub move_asks : (w : Window) → w.start.0 ≡ a → w.end.0 ≡ b → Starts o.one.layout o.one.size w × (Starts o.two.layout o.two.size w × Lengths w (length t) (length held))
-    move_asks w start end =
-        let fine = both_accepted r1 r2 S.0 in
-        let K = trays_known (both_from (accepted_as o.one) (accepted_as o.two)) a b (length t) (length held) (passes_none _ T) in (
-          starts xs (accepted_as o.one) S.1.0 fine.0 w (omega (arith, K.1)),
-          (
-            starts ys (accepted_as o.two) S.1.1 fine.1 w (omega (arith, K.1)),
-            record { first = rw (start, end) K.3; second = rw (start, end) K.4 },
-          ),
-        )
+    pub first_starts : (w : Window) → w.start.0 ≡ a → Starts o.one.layout o.one.size w
+    first_starts w start = starts xs (accepted_as o.one) S.1.0 (both_accepted r1 r2 S.0).0 w (omega (arith, fine.0))
+
+    pub second_starts : (w : Window) → w.start.0 ≡ a → Starts o.two.layout o.two.size w
+    second_starts w start = starts ys (accepted_as o.two) S.1.1 (both_accepted r1 r2 S.0).1 w (omega (arith, fine.0))
+
+    pub tray_lengths : (w : Window) → w.start.0 ≡ a → w.end.0 ≡ b → Lengths w (length t) (length held)
+    tray_lengths w start end = record { first = rw (start, end) fine.3; second = rw (start, end) fine.4 }
 
     pub moved_done : (later : List ℕ) → later ≡ moved (elements_of o.one.layout o.one.size) (elements_of o.two.layout o.two.size) a (b - a) t → later ≡ (move_of r1 r2 a b t held).later
     unfolding move_of
