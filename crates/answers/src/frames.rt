@@ -86,7 +86,7 @@ pub struct Frame<'a> {
 
 impl<'a> Frame<'a> {
     // The frame that these bytes are, if they are one.
-    #[tactic(auto, using(crate::proofs::Ends::first_fits, crate::proofs::Ends::second_fits, crate::proofs::Ends::third_fits, crate::proofs::Ends::fourth_fits))]
+    #[tactic(auto, using(crate::proofs::Ends::blob_grows, crate::proofs::Ends::first_fits, crate::proofs::Ends::second_fits, crate::proofs::Ends::third_fits, crate::proofs::Ends::fourth_fits))]
     pub fn parse(bytes: &'a [u8]) -> Option<Frame<'a>>
         ensures { MatchOption result (¬ Whole bytes.now) (λ frame. frame.bytes.now ≡ bytes.now) }
     {

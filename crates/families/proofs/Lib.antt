@@ -10,3 +10,4 @@ pub mod Marks
 pub mod Turns
 pub mod Owning
 pub mod Figures
+pub mod Rows

@@ -4,3 +4,4 @@ pub mod Flat
 pub mod Lent
 pub mod Props
 pub mod Owners
+pub mod Rows
