@@ -13,7 +13,7 @@ unfoldable pub fields : Answer → List ℕ
 fields a =
     field a.number ++ (field a.sheet ++ (field a.place ++ (field a.flag ++ (field a.value ++ (field a.value2 ++ field a.value3)))))
 
--- bytes in lower-case hex, two digits a byte: `glyph` of `io` is a digit's character, 0 to 9 and then a to f
+-- bytes in lower-case hex, two digits a byte: `hex_digit_ascii` of `io` is a digit's character, 0 to 9 and then a to f
 unfoldable pub hex : List ℕ → List ℕ
 hex [] = []
 hex (b ∷ bs) = hex_digit_ascii (b / 16) ∷ hex_digit_ascii (b % 16) ∷ hex bs

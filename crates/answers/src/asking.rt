@@ -16,49 +16,29 @@ pub fn check(frame: &Frame) -> Answer
 pub fn exact(frame: &Frame) -> Answer
     ensures { result ≡ answer_of (exact_said frame.now.bytes.now) }
 {
-<<<<<<< HEAD
-    said::of_outcome(astrephon::exact(frame.sheet1, frame.i(), frame.a()))
-=======
     said::of_outcome(astrephon::exact(frame.sheet1, frame.i, frame.a))
->>>>>>> 5d0b6040df10dd42aef141c4ccbb9a51d559ea8e
 }
 
 pub fn next(frame: &Frame) -> Answer
     ensures { result ≡ answer_of (next_said frame.now.bytes.now) }
 {
-<<<<<<< HEAD
-    said::of_outcome(astrephon::next(frame.sheet1, frame.i(), frame.a()))
-=======
     said::of_outcome(astrephon::next(frame.sheet1, frame.i, frame.a))
->>>>>>> 5d0b6040df10dd42aef141c4ccbb9a51d559ea8e
 }
 
 pub fn inverse(frame: &Frame) -> Answer
     ensures { result ≡ answer_of (inverse_said frame.now.bytes.now) }
 {
-<<<<<<< HEAD
-    said::of_outcome(astrephon::inverse(frame.sheet1, frame.i(), frame.a_in_subfile()))
-=======
     said::of_outcome(astrephon::inverse(frame.sheet1, frame.i, SubfileOffset(frame.a.0)))
->>>>>>> 5d0b6040df10dd42aef141c4ccbb9a51d559ea8e
 }
 
 pub fn span(frame: &Frame) -> Answer
     ensures { result ≡ answer_of (span_said frame.now.bytes.now) }
 {
-<<<<<<< HEAD
-    said::of_outcome(astrephon::span(frame.sheet1, frame.i(), frame.a(), frame.b()))
-=======
     said::of_outcome(astrephon::span(frame.sheet1, frame.i, frame.a, frame.b))
->>>>>>> 5d0b6040df10dd42aef141c4ccbb9a51d559ea8e
 }
 
 pub fn packed_length(frame: &Frame) -> Answer
     ensures { result ≡ answer_of (packed_said frame.now.bytes.now) }
 {
-<<<<<<< HEAD
-    said::of_outcome(astrephon::packed_len(frame.sheet1, frame.i(), frame.a(), frame.b()))
-=======
     said::of_outcome(astrephon::packed_len(frame.sheet1, frame.i, frame.a, frame.b))
->>>>>>> 5d0b6040df10dd42aef141c4ccbb9a51d559ea8e
 }

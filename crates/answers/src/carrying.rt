@@ -1,4 +1,5 @@
-// The calls that carry bytes, from a frame's source buffer into its destination buffer.
+// The calls that carry bytes, from a frame's source buffer into its destination buffer. Each hands its own call of the library what that asks of the frame: one
+// function for all would take a closure that says just this, and be no plainer.
 ghost use Rattle.answers.specs.Replies.{Tells, gather_outcome, scatter_outcome, move_outcome, pair_move_outcome};
 
 use crate::frames::Frame;
@@ -7,18 +8,7 @@ use said::Answer;
 pub fn gather(frame: &Frame, into: &mut [u8]) -> Answer
     ensures { Tells (gather_outcome frame.now.bytes.now into.old) result into.new }
 {
-<<<<<<< HEAD
-    said::of_outcome(astrephon::gather(
-        frame.sheet1,
-        frame.i(),
-        frame.a(),
-        frame.b(),
-        frame.source,
-        into,
-    ))
-=======
     said::of_outcome(astrephon::gather(frame.sheet1, frame.i, frame.a, frame.b, frame.source, into))
->>>>>>> 5d0b6040df10dd42aef141c4ccbb9a51d559ea8e
 }
 
 pub fn scatter(frame: &Frame, into: &mut [u8]) -> Answer
@@ -26,15 +16,9 @@ pub fn scatter(frame: &Frame, into: &mut [u8]) -> Answer
 {
     said::of_outcome(astrephon::scatter(
         frame.sheet1,
-<<<<<<< HEAD
-        frame.i(),
-        frame.a(),
-        frame.b(),
-=======
         frame.i,
         frame.a,
         frame.b,
->>>>>>> 5d0b6040df10dd42aef141c4ccbb9a51d559ea8e
         frame.source,
         into,
     ))
@@ -46,13 +30,8 @@ pub fn move_tray(frame: &Frame, into: &mut [u8]) -> Answer
     said::of_outcome(astrephon::move_tray(
         frame.sheet1,
         frame.sheet2,
-<<<<<<< HEAD
-        frame.a(),
-        frame.b(),
-=======
         frame.a,
         frame.b,
->>>>>>> 5d0b6040df10dd42aef141c4ccbb9a51d559ea8e
         frame.source,
         into,
     ))
@@ -64,17 +43,10 @@ pub fn move_pair(frame: &Frame, into: &mut [u8]) -> Answer
     said::of_outcome(astrephon::move_pair(
         frame.sheet1,
         frame.sheet2,
-<<<<<<< HEAD
-        frame.i(),
-        frame.j(),
-        frame.a(),
-        frame.b(),
-=======
         frame.i,
         frame.j,
         frame.a,
         frame.b,
->>>>>>> 5d0b6040df10dd42aef141c4ccbb9a51d559ea8e
         frame.source,
         into,
     ))

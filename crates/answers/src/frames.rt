@@ -49,12 +49,6 @@ fn blob(bytes: &[u8], at: usize) -> Option<(&[u8], usize)>
     Some((&bytes[start..end], end))
 }
 
-<<<<<<< HEAD
-// A whole frame: its bytes, and the four blobs that fill them. They are neither cut nor too many.
-#[derive(Clone, Copy)]
-pub struct Frame<'a> {
-    bytes: &'a [u8],
-=======
 // A whole frame: its bytes, the four numbers, and the four blobs. They fill the bytes, which are neither cut nor too many.
 #[derive(Clone, Copy)]
 pub struct Frame<'a> {
@@ -63,7 +57,6 @@ pub struct Frame<'a> {
     pub j: u64,
     pub a: FileOffset,
     pub b: FileOffset,
->>>>>>> 5d0b6040df10dd42aef141c4ccbb9a51d559ea8e
     pub sheet1: &'a [u8],
     pub sheet2: &'a [u8],
     // The source buffer.
@@ -71,13 +64,10 @@ pub struct Frame<'a> {
     // The destination buffer, as it was before the call.
     pub destination: &'a [u8],
     ghost whole: { Whole bytes.now },
-<<<<<<< HEAD
-=======
     ghost number_i: { i ≡ i_of bytes.now },
     ghost number_j: { j ≡ j_of bytes.now },
     ghost number_a: { a.0 ≡ a_of bytes.now },
     ghost number_b: { b.0 ≡ b_of bytes.now },
->>>>>>> 5d0b6040df10dd42aef141c4ccbb9a51d559ea8e
     ghost first: { sheet1.now ≡ blob bytes.now 33 },
     ghost second: { sheet2.now ≡ blob bytes.now (end1 bytes.now) },
     ghost third: { source.now ≡ from_of bytes.now },
@@ -99,13 +89,10 @@ impl<'a> Frame<'a> {
         }
         Some(Frame {
             bytes,
-<<<<<<< HEAD
-=======
             i: numbers::le64_at(bytes, I),
             j: numbers::le64_at(bytes, J),
             a: FileOffset(numbers::le64_at(bytes, A)),
             b: FileOffset(numbers::le64_at(bytes, B)),
->>>>>>> 5d0b6040df10dd42aef141c4ccbb9a51d559ea8e
             sheet1,
             sheet2,
             source,
@@ -121,48 +108,4 @@ impl<'a> Frame<'a> {
     {
         Call::try_from(self.bytes[0]).ok()
     }
-<<<<<<< HEAD
-
-    // One of the four numbers.
-    #[tactic(auto, using(crate::proofs::Ends::first_fits))]
-    fn number_at(&self, at: usize) -> u64
-        requires { at ≤ 25 }
-        ensures { result ≡ le64 self.now.bytes.now at }
-    {
-        numbers::le64_at(self.bytes, at)
-    }
-
-    pub fn i(&self) -> u64
-        ensures { result ≡ i_of self.now.bytes.now }
-    {
-        self.number_at(I)
-    }
-
-    pub fn j(&self) -> u64
-        ensures { result ≡ j_of self.now.bytes.now }
-    {
-        self.number_at(J)
-    }
-
-    // The number a, which most calls take as an offset in the file,
-    pub fn a(&self) -> FileOffset
-        ensures { result.0 ≡ a_of self.now.bytes.now }
-    {
-        FileOffset(self.number_at(A))
-    }
-
-    // and `inverse` as one in the element's bytes.
-    pub fn a_in_subfile(&self) -> SubfileOffset
-        ensures { result.0 ≡ a_of self.now.bytes.now }
-    {
-        SubfileOffset(self.number_at(A))
-    }
-
-    pub fn b(&self) -> FileOffset
-        ensures { result.0 ≡ b_of self.now.bytes.now }
-    {
-        FileOffset(self.number_at(B))
-    }
-=======
->>>>>>> 5d0b6040df10dd42aef141c4ccbb9a51d559ea8e
 }

@@ -31,7 +31,8 @@ fn refuse() -> ControlFlow<()> {
 }
 
 // Prints the line of a frame, and answers whether to go on: not after a bad one, nor where it cannot be printed. Here and below `buffer` has room for the
-// frame's destination buffer, and `text` for its line.
+// frame's destination buffer, and `text` for its line. They are slices and not the fields of a struct, of which no two could be lent on
+// where the struct itself is lent (tried).
 fn print_answer(frame: &[u8], buffer: &mut [u8], text: &mut [u8]) -> ControlFlow<()>
     requires { Room (length frame.now) (length buffer.old) (length text.old) }
 {

@@ -12,7 +12,6 @@ use Rattle.sheets.specs.Reading.{Reading}
 use Rattle.sheets.specs.Sheet.{read_sheet}
 use Rattle.maps.specs.Selected.{belongs}
 use Rattle.maps.specs.declared.Selection.{Selection}
-use Rattle.maps.specs.declared.window.Window.{Window}
 use Rattle.maps.specs.Windows.{WindowOk}
 use Rattle.openings.specs.declared.Refusal.TheVariants.{Room}
 use Rattle.openings.specs.declared.Pair.{Pair}

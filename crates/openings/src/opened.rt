@@ -18,9 +18,11 @@ pub fn choose(sheet: Sheet, element: usize) -> Opening
     requires there { element < sheet.layout.elements }
     ensures { Chosen (accepted_as sheet) element result }
 {
-    let layout = sheet.layout;
-    let selection = maps::selection_of(&layout, sheet.size, element);
-    Opening { layout, selection }
+    let selection = maps::selection_of(&sheet.layout, sheet.size, element);
+    Opening {
+        layout: sheet.layout,
+        selection,
+    }
 }
 
 // Opens an element of a sheet.

@@ -19,7 +19,7 @@ pub move_tray-requires : goal.move_tray-requires
 move_tray-requires c =
     let a = c.args in
     let asks = move_asks _ _ c.in_ok-both.ensures a.a.0 a.b.0 a.tray1.now a.tray2.now c.in_ok-check_trays.ensures in
-    record { first = (asks _ refl refl).0; second = search (asks, refl); lengths = (asks _ refl refl).1.1 }
+    record { first = (asks _ refl refl).0; second = (asks _ refl refl).1.0; lengths = (asks _ refl refl).1.1 }
 
 pub returns-clause-leaves : goal.returns-clause-leaves
 returns-clause-leaves c = moved_done _ _ c.in_ok-both.ensures _ _ _ _ c.in_ok-check_trays.ensures _ c.move_tray.ensures

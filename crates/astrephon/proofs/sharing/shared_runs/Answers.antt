@@ -1,5 +1,5 @@
 -- `shared_runs` meets its contract. Assumes nothing.
-use mathlib.Core.Path.{refl, sym}
+use mathlib.Core.Path.{sym}
 use Rattle.openings.proofs.Orders.{left_held}
 use Rattle.astrephon.specs.Shares.{shared_runs_of}
 use Rattle.astrephon.proofs.Listings.{shared_asks, room_says, room_leaves, runs_says, runs_leaves}
