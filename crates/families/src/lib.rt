@@ -32,7 +32,8 @@ pub struct Element {
 }
 
 // A decoded layout. `elements` and `families` say how much of each array is in use. 01 names this form: arrays of structs with
-// their counts, passed by value.
+// their counts, passed by value. That it meets the sheet rules (`LayoutOk`) is a clause and not in its type: their bound is a
+// table's length here and a sheet's limit there.
 #[derive(Clone, Copy)]
 pub struct Layout {
     pub displacement: u32,

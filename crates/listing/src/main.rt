@@ -3,6 +3,7 @@
 // `astrephon::list_sheet` writes the text, and is proved to. No contract can say what is read or printed, so this file is proved safe, and proved to end.
 #![tactic(auto)]
 
+// The streams by their numbers, as the kit's `io` takes them: std's own rest on one more contract of the C library.
 const INPUT: i32 = 0;
 
 const OUTPUT: i32 = 1;

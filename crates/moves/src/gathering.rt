@@ -1,4 +1,7 @@
 // Gathering: the selected bytes of a file buffer, packed one after the other.
+//
+// `Carries` and `SideOk`, here and in the crates above, relate a subfile with a window and the lengths of what is lent, which no one value holds: so they are
+// clauses. The loops of gathering and scattering differ in what is written, and one over a closure would call it for every run.
 ghost use Rattle.std.specs.Prelude.{◌≡◌, ◌-◌, ◌≤◌, length};
 ghost use Rattle.counting.specs.Gather.{in_file, gathered};
 ghost use Rattle.maps.specs.Selected.{belongs};

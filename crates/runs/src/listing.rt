@@ -1,6 +1,7 @@
 // Listing: the runs that two selections share, by tables that have room for them.
 //
-// The list is lent, four slots a run: that is the form that the call's caller has it in.
+// The list is lent, four slots a run: that is the form that the call's caller has it in. `SideOk` relates a subfile with the size of a table and the
+// start of a window, which no one value holds: so it is a clause.
 ghost use Rattle.std.specs.Prelude.{◌≡◌, [], ◌∷◌, ◌+◌, ◌^◌, ◌<◌};
 ghost use Rattle.maps.specs.Selected.{belongs};
 ghost use Rattle.runs.specs.Listing.{Listed, filled, with_run};

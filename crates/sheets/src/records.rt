@@ -10,7 +10,7 @@ use crate::digits;
 use crate::refusals::{Fault, Refused};
 use families::Family;
 
-// The kinds of records.
+// The kinds of records. They are numbers, since 01 names the form: a match on the kind number, with a range for unknown kinds.
 pub const HEADER: u32 = 1;
 
 pub const ELEMENT: u32 = 2;

@@ -110,7 +110,7 @@ pub fn move_by_tables<const N: usize>(
     filling::fill_parts(&targets, &sources, window, chosen, tray1, tray2);
 }
 
-// Moves what is chosen. An empty window has nothing.
+// Moves what is chosen. An empty window has nothing. `Lengths`, here and below, relates a window with two lent trays: so it is a clause.
 pub fn move_chosen(
     first: &Pattern,
     second: &Pattern,
