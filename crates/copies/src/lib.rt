@@ -4,7 +4,7 @@
 // chunk is the compiler knows, so it makes wide moves of the chunk and calls nothing.
 #![tactic(auto)]
 
-ghost use Rattle.std.specs.Prelude.{◌≡◌, ◌+◌, ◌≤◌, length, drop};
+ghost use Rattle.std.specs.Prelude.{◌≡◌, ◌+◌, ◌≤◌, ◌<◌, length, drop};
 ghost use Rattle.std.proofs.Math.Seq.{paste};
 
 // Copies the n bytes of src from index `from` on to dst, from index `to` on. Every other byte of dst stays.
@@ -13,14 +13,26 @@ pub fn copy_run(src: &[u8], from: usize, dst: &mut [u8], to: usize, n: usize)
     ensures { dst.new ≡ paste dst.old to (drop from src.now) n }
 {
     match n {
-        0..=1 => copy_bytes(src, from, dst, to, n),
-        2..=3 => copy_ends::<2>(src, from, dst, to, n),
-        4..=7 => copy_ends::<4>(src, from, dst, to, n),
-        8..=15 => copy_ends::<8>(src, from, dst, to, n),
+        0..=15 => copy_few(src, from, dst, to, n),
         16..=32 => copy_ends::<16>(src, from, dst, to, n),
         33..=64 => copy_ends::<32>(src, from, dst, to, n),
         65..=128 => copy_ends::<64>(src, from, dst, to, n),
         _ => copy_many(src, from, dst, to, n),
+    }
+}
+
+// Fewer than 16 bytes, down to none: told apart behind the longer runs, which meet one comparison for all of these.
+fn copy_few(src: &[u8], from: usize, dst: &mut [u8], to: usize, n: usize)
+    requires reads { from + n ≤ length src.now }
+    requires writes { to + n ≤ length dst.old }
+    requires few { n < 16 }
+    ensures { dst.new ≡ paste dst.old to (drop from src.now) n }
+{
+    match n {
+        0..=1 => copy_bytes(src, from, dst, to, n),
+        2..=3 => copy_ends::<2>(src, from, dst, to, n),
+        4..=7 => copy_ends::<4>(src, from, dst, to, n),
+        _ => copy_ends::<8>(src, from, dst, to, n),
     }
 }
 

@@ -18,11 +18,14 @@ pub fn scatter_runs(track: &Track, window: Window, packed: &[u8], file: &mut [u8
 {
     let bytes = file.len();
     let mut walk = walks::begin(&track.subfile, window.start);
+    // read once: the compiler cannot see that what is written to `file` leaves the track as it is
+    let strides = track.strides;
+    let selection = track.subfile.selection;
     // a run says how far the next one is, so that this goes by no range
     while walk.at < bytes {
-        let run = walks::run_here(track.strides, walk, bytes);
+        let run = walks::run_here(strides, walk, bytes);
         copies::copy_run(packed, walk.packed, file, walk.at, run);
-        walk = walks::onward(track.strides, track.subfile.selection, walk, run);
+        walk = walks::onward(strides, selection, walk, run);
     }
 }
 

@@ -11,5 +11,5 @@ use maps::Subfile;
 pub struct Track<'a> {
     pub subfile: Subfile<'a>,
     pub strides: &'a [Stride],
-    pub ghost ahead: { Strides subfile.selection (belongs subfile.selection subfile.families.now) strides.now } by { strides_prop subfile.selection (belongs subfile.selection subfile.families.now) strides.now },
+    pub ghost ahead: { Strides subfile.selection (belongs subfile.selection subfile.families.now) strides.now } by { strides_prop _ _ _ },
 }

@@ -27,19 +27,23 @@ pub fn fill_part(
 {
     let bytes = tray.len();
     let mut walk = moves::begin(&track.subfile, window.start);
+    // read once: the compiler cannot see that what is written to `part` leaves the track and the sources as they are
+    let strides = track.strides;
+    let selection = track.subfile.selection;
+    let tables = *sources;
     // a piece says how far the next one is, so that this goes by no range
     while walk.at < bytes {
-        let run = moves::run_here(track.strides, walk, bytes);
-        let piece = sources.piece_at(FileOffset(window.start.0 + walk.at as u64), run);
+        let run = moves::run_here(strides, walk, bytes);
+        let piece = tables.piece_at(FileOffset(window.start.0 + walk.at as u64), run);
         let taken = choices::takes(only, piece.owner);
         let mut step = piece.len;
         if taken {
-            let source = sources.source_of(piece);
+            let source = tables.source_of(piece);
             copies::copy_run(tray, source.0 as usize, part, walk.packed, piece.len);
             if only.is_some() {
-                step = sources.beyond(piece, run);
+                step = tables.beyond(piece, run);
             }
         }
-        walk = moves::further(track.strides, track.subfile.selection, walk, run, step);
+        walk = moves::further(strides, selection, walk, run, step);
     }
 }
