@@ -75,8 +75,8 @@ module _ (xs ys : List ℕ) {o : Sheets} (S : Passes (unless_sheets (read_sheet 
     pub second_starts : (w : Window) → w.start.0 ≡ a → Starts o.two.layout o.two.size w
     second_starts w start = starts ys (accepted_as o.two) S.1.1 (both_accepted r1 r2 S.0).1 w (omega (arith, fine.0))
 
-    pub tray_lengths : (w : Window) → w.start.0 ≡ a → w.end.0 ≡ b → Lengths w (length t) (length held)
-    tray_lengths w start end = record { first = rw (start, end) fine.3; second = rw (start, end) fine.4 }
+    pub move_asks : (w : Window) → w.start.0 ≡ a → w.end.0 ≡ b → Starts o.one.layout o.one.size w × (Starts o.two.layout o.two.size w × Lengths w (length t) (length held))
+    move_asks w start end = (first_starts w start, (second_starts w start, record { first = rw (start, end) fine.3; second = rw (start, end) fine.4 }))
 
     pub moved_done : (later : List ℕ) → later ≡ moved (elements_of o.one.layout o.one.size) (elements_of o.two.layout o.two.size) a (b - a) t → later ≡ (move_of r1 r2 a b t held).later
     unfolding move_of

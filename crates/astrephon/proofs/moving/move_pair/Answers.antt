@@ -4,7 +4,7 @@ use Rattle.openings.proofs.Orders.{left_held}
 use Rattle.openings.proofs.Verdicts.{passes_none}
 use Rattle.openings.proofs.Faults.{pair_known}
 use Rattle.astrephon.specs.Moves.{pair_move_of}
-use Rattle.astrephon.proofs.TrayMoves.{move_window, first_starts, second_starts, tray_lengths, pair_absent, pair_refused, pair_done}
+use Rattle.astrephon.proofs.TrayMoves.{move_window, move_asks, pair_absent, pair_refused, pair_done}
 use Rattle.astrephon.proofs.moving.move_pair.Goals as goal
 
 pub returns-in_err-both-clause-leaves : goal.returns-in_err-both-clause-leaves
@@ -26,16 +26,9 @@ pub move_pair-requires : goal.move_pair-requires
 move_pair-requires c =
     let a = c.args in
     let o = c.in_ok-both.both in
-    let S = c.in_ok-both.ensures in
-    let T = c.in_ok-check_trays.ensures in
+    let asks = move_asks _ _ c.in_ok-both.ensures a.a.0 a.b.0 a.tray1.now a.tray2.now c.in_ok-check_trays.ensures in
     let there = pair_known o.one.layout.elements a.i o.two.layout.elements a.j (passes_none _ c.in_ok-check_pair.ensures) in
-    record {
-      first = first_starts _ _ S a.a.0 a.b.0 a.tray1.now a.tray2.now T _ refl;
-      second = second_starts _ _ S a.a.0 a.b.0 a.tray1.now a.tray2.now T _ refl;
-      element = there.0;
-      other = there.1;
-      lengths = tray_lengths _ _ S a.a.0 a.b.0 a.tray1.now a.tray2.now T _ refl refl;
-    }
+    record { first = (asks _ refl refl).0; second = (asks _ refl refl).1.0; element = there.0; other = there.1; lengths = (asks _ refl refl).1.1 }
 
 pub returns-clause-leaves : goal.returns-clause-leaves
 returns-clause-leaves c = pair_done _ _ c.in_ok-both.ensures _ _ _ _ _ _ c.in_ok-check_pair.ensures c.in_ok-check_trays.ensures _ c.move_pair.ensures

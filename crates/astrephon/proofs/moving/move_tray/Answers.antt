@@ -2,7 +2,7 @@
 use mathlib.Core.Path.{refl, sym}
 use Rattle.openings.proofs.Orders.{left_held}
 use Rattle.astrephon.specs.Moves.{move_of}
-use Rattle.astrephon.proofs.TrayMoves.{moved_refused, move_window, first_starts, second_starts, tray_lengths, moved_done}
+use Rattle.astrephon.proofs.TrayMoves.{moved_refused, move_window, first_starts, second_starts, move_asks, moved_done}
 use Rattle.astrephon.proofs.moving.move_tray.Goals as goal
 
 pub returns-in_err-both-clause-leaves : goal.returns-in_err-both-clause-leaves
@@ -23,7 +23,7 @@ move_tray-requires c =
     let T = c.in_ok-check_trays.ensures in
     let first = first_starts _ _ S a.a.0 a.b.0 a.tray1.now a.tray2.now T in
     let second = second_starts _ _ S a.a.0 a.b.0 a.tray1.now a.tray2.now T in
-    record { first = first _ refl; second = search second; lengths = tray_lengths _ _ S a.a.0 a.b.0 a.tray1.now a.tray2.now T _ refl refl }
+    record { first = first _ refl; second = search second; lengths = (move_asks _ _ S a.a.0 a.b.0 a.tray1.now a.tray2.now T _ refl refl).1.1 }
 
 pub returns-clause-leaves : goal.returns-clause-leaves
 returns-clause-leaves c = moved_done _ _ c.in_ok-both.ensures _ _ _ _ c.in_ok-check_trays.ensures _ c.move_tray.ensures
