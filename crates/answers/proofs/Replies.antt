@@ -5,12 +5,31 @@ use Prim.Native.Nat.{ℕ}
 use borrow.Author.Tests.{eq-eqb, ne_eqb}
 use lib.ListN.{length}
 use Rattle.std.specs.Prelude.{Option, Some, None}
+use Rattle.openings.specs.Said.{Outcome}
 use Rattle.said.specs.declared.Answer.{Answer}
 use Rattle.answers.specs.declared.calls.Call.TheVariants.{Check, Exact, Next, Inverse, Span, Gather, Scatter, Move, PairMove, SharedRuns, Listing, PackedLength}
 use Rattle.answers.specs.Calls.{NamesNone}
 use Rattle.answers.specs.Frames.{call_of, end4, Whole, into_of}
 use Rattle.answers.specs.Lines.{line}
-use Rattle.answers.specs.Replies.{asked_of, leaving, reply_to, line_of, line_left, reply}
+use Rattle.answers.specs.Replies.{Tells, asked_of, leaving, telling, reply_to, line_of, line_left, reply}
+
+-- ---- by the number of the call
+pub asked_told : (xs : List ℕ) {a b : Answer} {k call : ℕ} → a ≡ b → call ≡ k → asked_of k xs ≡ Some b → ◌≡◌ {A = Option Answer} (Some a) (asked_of call xs)
+asked_told xs e is to = ap Some e ∙ sym to ∙ ap (λ (n : ℕ). asked_of n xs) (sym is)
+
+pub asked_unknown : (call : ℕ) (xs : List ℕ) → (call ≡ 1 → ⊥) → (call ≡ 2 → ⊥) → (call ≡ 3 → ⊥) → (call ≡ 4 → ⊥) → (call ≡ 5 → ⊥) → (call ≡ 17 → ⊥) → ◌≡◌ {A = Option Answer} None (asked_of call xs)
+unfolding asked_of
+asked_unknown call xs n1 n2 n3 n4 n5 n17 = rw (ne_eqb call 1 n1, ne_eqb call 2 n2, ne_eqb call 3 n3, ne_eqb call 4 n4, ne_eqb call 5 n5, ne_eqb call 17 n17) refl
+
+pub replied_told : (xs into : List ℕ) {o : Outcome} {a : Answer} {later : List ℕ} {k call : ℕ} → Tells o a later → call ≡ k → reply_to k xs into ≡ telling o
+    → leaving (Some a) later ≡ reply_to call xs into
+replied_told xs into T is to = (λ t. leaving (Some (T.answered t)) (T.left t)) ∙ sym to ∙ ap (λ (n : ℕ). reply_to n xs into) (sym is)
+
+pub replied_asked : (call : ℕ) (xs into : List ℕ) {r : Option Answer} → r ≡ asked_of call xs
+    → (call ≡ 6 → ⊥) → (call ≡ 7 → ⊥) → (call ≡ 8 → ⊥) → (call ≡ 9 → ⊥) → (call ≡ 10 → ⊥) → (call ≡ 11 → ⊥) → leaving r into ≡ reply_to call xs into
+unfolding reply_to
+replied_asked call xs into is n6 n7 n8 n9 n10 n11 =
+    rw (ne_eqb call 6 n6, ne_eqb call 7 n7, ne_eqb call 8 n8, ne_eqb call 9 n9, ne_eqb call 10 n10, ne_eqb call 11 n11) (ap (λ (s : Option Answer). leaving s into) is)
 
 -- no call has the number: nothing is replied
 pub unreplied : (n : ℕ) (xs into : List ℕ) → NamesNone n → (reply_to n xs into).reply ≡ None
