@@ -1,4 +1,4 @@
-// The calls that write nothing: what they say of a frame.
+// The calls that write nothing: what they say of a frame. Each is one call of the library with what it takes of the frame.
 ghost use Rattle.std.specs.Prelude.{◌≡◌};
 ghost use Rattle.said.specs.Answers.{answer_of};
 ghost use Rattle.answers.specs.Replies.{check_said, exact_said, next_said, inverse_said, span_said, packed_said};

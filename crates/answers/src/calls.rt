@@ -55,7 +55,7 @@ impl TryFrom<u8> for Call {
     }
 }
 
-// Makes the frame's call on the destination buffer.
+// Makes the frame's call on the destination buffer. That the buffer is short is a fact of what is lent beside the frame; here, below and in `writing` it is a clause.
 #[tactic(auto, unfolding(crate::specs::Replies::reply_to, crate::specs::Replies::asked_of))]
 fn make(call: Call, frame: &Frame, into: &mut [u8]) -> Answer
     requires { length into.old ≤ 65536 }

@@ -23,10 +23,11 @@ const B: usize = 25;
 const BLOBS: usize = 33;
 
 // A frame's first number.
+#[tactic(auto, unfolding(sheets::specs::Bytes::le16, sheets::specs::Bytes::le32))]
 pub fn number(head: &[u8; 4]) -> usize
     ensures { result ≡ le32 head.now 0 }
 {
-    sheets::le32_at(head, 0) as usize
+    u32::from_le_bytes(*head) as usize
 }
 
 // The blob whose length stands at `at`, and where it ends, if it fits.
@@ -43,10 +44,7 @@ fn blob(bytes: &[u8], at: usize) -> Option<(&[u8], usize)>
         return None;
     }
     let end = start + sheets::le32_at(bytes, at) as usize;
-    if bytes.len() < end {
-        return None;
-    }
-    Some((&bytes[start..end], end))
+    Some((bytes.get(start..end)?, end))
 }
 
 // A whole frame: its bytes, the four numbers, and the four blobs. They fill the bytes, which are neither cut nor too many.

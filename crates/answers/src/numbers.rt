@@ -6,7 +6,7 @@ ghost use Rattle.answers.specs.Numbers.{le64, lowest, slots_in, with_slots};
 // The slots of the longest buffer that a frame has.
 pub const MOST_SLOTS: usize = 8192;
 
-// The number at `at`. It is not `u64::from_le_bytes`, for which the eight bytes would first be copied into an array.
+// The number at `at`. `u64::from_le_bytes` is no plainer: it takes an array of eight bytes, each by its index.
 #[tactic(auto, unfolding(crate::specs::Numbers::le64))]
 pub fn le64_at(bytes: &[u8], at: usize) -> u64
     requires { at + 8 ≤ length bytes.now }

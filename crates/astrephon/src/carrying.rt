@@ -1,4 +1,4 @@
-// Carrying one element's bytes of a window between a file buffer and a packed one.
+// Carrying one element's bytes of a window between a file buffer and a packed one. Gather and scatter are two calls, each with theorems of its own.
 ghost use Rattle.std.specs.Prelude.{◌≡◌};
 ghost use Rattle.astrephon.specs.Says.{says, number_value, no_values};
 ghost use Rattle.astrephon.specs.Carries.{packed_length_call, gather_call, scatter_call};

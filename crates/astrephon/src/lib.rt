@@ -31,7 +31,7 @@ pub struct Facts {
 }
 
 // An interval of a subfile: its first and its last offset, both included.
-#[derive(Clone, Copy)]
+#[derive(Clone, Copy, Debug, PartialEq, Eq)]
 pub struct Interval {
     pub first: SubfileOffset,
     pub last: SubfileOffset,

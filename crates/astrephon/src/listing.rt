@@ -16,9 +16,10 @@ pub fn list_sheet(sheet: &[u8], text: &mut [u8]) -> Result<usize, Refusal>
 {
     let mut whole = [0u8; crate::LONGEST_LISTING];
     let n = lines::put_listing(sheet, &mut whole);
-    if text.len() < n {
+    let short = text.len() < n;
+    if short {
         return Err(Refusal::Buffer);
     }
-    copies::copy_run(&whole, 0, text, 0, n);
+    text[..n].copy_from_slice(&whole[..n]);
     Ok(n)
 }

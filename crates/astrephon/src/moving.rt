@@ -33,7 +33,7 @@ pub fn move_tray(
     Ok(())
 }
 
-// Writes to `tray2` only the bytes that element i of the first sheet and element j of the second share.
+// Writes to `tray2` only the bytes that element i of the first sheet and element j of the second share. Eight parameters: the call as docs/CALLS.md has it.
 #[tactic(auto, unfolding(crate::specs::Moves::pair_move_of))]
 pub fn move_pair(
     sheet1: &[u8],

@@ -1,3 +1,4 @@
 pub mod Selected
 pub mod Windows
 pub mod Facts
+pub mod Lent

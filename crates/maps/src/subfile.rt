@@ -2,7 +2,7 @@
 ghost use Rattle.std.specs.Prelude.{◌≡◌, ◌+◌, ◌-◌, ◌*◌, ◌^◌, ◌≤◌, ◌<◌};
 ghost use Rattle.counting.specs.Count.{count_below};
 ghost use Rattle.families.specs.Lent.{forest_of};
-ghost use Rattle.maps.specs.Selected.{belongs, families_of, Byte, SelectionOk};
+ghost use Rattle.maps.specs.Selected.{families_of, Byte, SelectionOk};
 ghost use Rattle.maps.specs.Facts.{selection_prop};
 
 use crate::Selection;
@@ -18,6 +18,8 @@ pub struct Subfile<'a> {
 }
 
 impl<'a> Subfile<'a> {
+    ghost use Rattle.maps.specs.Lent.{bytes_in};
+
     // What it selects of one period: these families with their children.
     pub fn siblings(&self) -> Siblings<'a>
         ensures { forest_of result ≡ families_of self.now.selection self.now.families.now }
@@ -33,7 +35,7 @@ impl<'a> Subfile<'a> {
 
     // Whether it has file offset x.
     pub fn has(&self, x: FileOffset) -> bool
-        ensures { result ≡ belongs self.now.selection self.now.families.now x.0 }
+        ensures { result ≡ bytes_in self.now x.0 }
     {
         let s = self.selection;
         let from = u64::from(s.from);
@@ -48,7 +50,7 @@ impl<'a> Subfile<'a> {
 
     // How many file offsets below x it has.
     pub fn rank(&self, x: FileOffset) -> SubfileOffset
-        ensures { result.0 ≡ count_below (belongs self.now.selection self.now.families.now) x.0 }
+        ensures { result.0 ≡ count_below (bytes_in self.now) x.0 }
     {
         let s = self.selection;
         let from = u64::from(s.from);
@@ -64,7 +66,7 @@ impl<'a> Subfile<'a> {
     // The file offset of byte y of it.
     pub fn byte(&self, y: SubfileOffset) -> FileOffset
         requires { y.0 < 2 ^ 40 }
-        ensures { Byte (belongs self.now.selection self.now.families.now) y.0 result.0 }
+        ensures { Byte (bytes_in self.now) y.0 result.0 }
     {
         let s = self.selection;
         let size = u64::from(s.size);
@@ -75,7 +77,7 @@ impl<'a> Subfile<'a> {
     // How many bytes it has from one file offset up to but not including another.
     pub fn count(&self, from: FileOffset, to: FileOffset) -> u64
         requires { from.0 ≤ to.0 }
-        ensures { let p = belongs self.now.selection self.now.families.now in
+        ensures { let p = bytes_in self.now in
             result ≡ count_below p to.0 - count_below p from.0 }
     {
         self.rank(to).0 - self.rank(from).0

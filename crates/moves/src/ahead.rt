@@ -1,6 +1,6 @@
 // A table by place in a period: how long the run of its owner from there on is, and how far the owner's next run after it.
 ghost use Rattle.std.specs.Prelude.{◌≤◌};
-ghost use Rattle.maps.specs.Selected.{belongs};
+ghost use Rattle.maps.specs.Lent.{bytes_in};
 ghost use Rattle.runs.specs.Walking.{FitsTable};
 ghost use Rattle.moves.specs.Strides.{Room, Strides};
 ghost use Rattle.moves.specs.Owning.{Nexts, AllFilled};
@@ -50,7 +50,7 @@ pub fn look_ahead<const N: usize>(subfile: &Subfile, strides: &mut [Stride])
     requires small { N ≤ 65536 }
     requires fits { FitsTable subfile.now.selection subfile.now.families.now N }
     requires room { Room subfile.now.selection.period strides.old }
-    ensures { Strides subfile.now.selection (belongs subfile.now.selection subfile.now.families.now) strides.new }
+    ensures { Strides subfile.now.selection (bytes_in subfile.now) strides.new }
 {
     let s = subfile.selection;
     let from = u64::from(s.from);

@@ -4,7 +4,7 @@
 // clauses. The loops of gathering and scattering differ in what is written, and one over a closure would call it for every run.
 ghost use Rattle.std.specs.Prelude.{◌≡◌, ◌-◌, ◌≤◌, length};
 ghost use Rattle.counting.specs.Gather.{in_file, gathered};
-ghost use Rattle.maps.specs.Selected.{belongs};
+ghost use Rattle.maps.specs.Lent.{bytes_in};
 ghost use Rattle.runs.specs.Walking.{FitsTable, SideOk};
 ghost use Rattle.moves.specs.Walks.{Buffers, Carries};
 
@@ -17,7 +17,7 @@ use maps::{Subfile, Window};
 pub fn gather_runs(track: &Track, window: Window, file: &[u8], packed: &mut [u8])
     requires { Carries track.now.subfile.selection track.now.subfile.families.now window (length file.now) (length packed.old) }
     ensures { let a = window.start.0 in
-        packed.new ≡ gathered (belongs track.now.subfile.selection track.now.subfile.families.now) a (window.end.0 - a) (in_file a file.now) }
+        packed.new ≡ gathered (bytes_in track.now.subfile) a (window.end.0 - a) (in_file a file.now) }
 {
     let bytes = file.len();
     let mut walk = walks::begin(&track.subfile, window.start);
@@ -43,7 +43,7 @@ pub fn gather_by_table<const N: usize>(
     requires fits { FitsTable subfile.now.selection subfile.now.families.now N }
     requires carries { Carries subfile.now.selection subfile.now.families.now window (length file.now) (length packed.old) }
     ensures { let a = window.start.0 in
-        packed.new ≡ gathered (belongs subfile.now.selection subfile.now.families.now) a (window.end.0 - a) (in_file a file.now) }
+        packed.new ≡ gathered (bytes_in subfile.now) a (window.end.0 - a) (in_file a file.now) }
 {
     let mut strides = [NO_STRIDE; N];
     ahead::look_ahead::<N>(subfile, &mut strides);
@@ -57,9 +57,9 @@ pub fn gather_by_table<const N: usize>(
 // Packs the selected bytes of a window. An empty one has none.
 pub fn gather(subfile: &Subfile, window: Window, file: &[u8], packed: &mut [u8])
     requires side { SideOk subfile.now.selection subfile.now.families.now 65536 window.start.0 }
-    requires buffers { Buffers (belongs subfile.now.selection subfile.now.families.now) window (length file.now) (length packed.old) }
+    requires buffers { Buffers (bytes_in subfile.now) window (length file.now) (length packed.old) }
     ensures { let a = window.start.0 in
-        packed.new ≡ gathered (belongs subfile.now.selection subfile.now.families.now) a (window.end.0 - a) (in_file a file.now) }
+        packed.new ≡ gathered (bytes_in subfile.now) a (window.end.0 - a) (in_file a file.now) }
 {
     if window.end.0 <= window.start.0 {
         return;

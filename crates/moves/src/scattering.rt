@@ -1,7 +1,7 @@
 // Scattering: packed bytes put back to where they are selected in a file buffer. Every other byte stays.
 ghost use Rattle.std.specs.Prelude.{◌≡◌, ◌-◌, ◌≤◌, length};
 ghost use Rattle.counting.specs.Gather.{scattered};
-ghost use Rattle.maps.specs.Selected.{belongs};
+ghost use Rattle.maps.specs.Lent.{bytes_in};
 ghost use Rattle.runs.specs.Walking.{FitsTable, SideOk};
 ghost use Rattle.moves.specs.Walks.{Buffers, Carries};
 
@@ -14,7 +14,7 @@ use maps::{Subfile, Window};
 pub fn scatter_runs(track: &Track, window: Window, packed: &[u8], file: &mut [u8])
     requires { Carries track.now.subfile.selection track.now.subfile.families.now window (length file.old) (length packed.now) }
     ensures { let a = window.start.0 in
-        file.new ≡ scattered (belongs track.now.subfile.selection track.now.subfile.families.now) a (window.end.0 - a) packed.now file.old }
+        file.new ≡ scattered (bytes_in track.now.subfile) a (window.end.0 - a) packed.now file.old }
 {
     let bytes = file.len();
     let mut walk = walks::begin(&track.subfile, window.start);
@@ -40,7 +40,7 @@ pub fn scatter_by_table<const N: usize>(
     requires fits { FitsTable subfile.now.selection subfile.now.families.now N }
     requires carries { Carries subfile.now.selection subfile.now.families.now window (length file.old) (length packed.now) }
     ensures { let a = window.start.0 in
-        file.new ≡ scattered (belongs subfile.now.selection subfile.now.families.now) a (window.end.0 - a) packed.now file.old }
+        file.new ≡ scattered (bytes_in subfile.now) a (window.end.0 - a) packed.now file.old }
 {
     let mut strides = [NO_STRIDE; N];
     ahead::look_ahead::<N>(subfile, &mut strides);
@@ -54,9 +54,9 @@ pub fn scatter_by_table<const N: usize>(
 // Puts packed bytes back to a window. An empty one has none.
 pub fn scatter(subfile: &Subfile, window: Window, packed: &[u8], file: &mut [u8])
     requires side { SideOk subfile.now.selection subfile.now.families.now 65536 window.start.0 }
-    requires buffers { Buffers (belongs subfile.now.selection subfile.now.families.now) window (length file.old) (length packed.now) }
+    requires buffers { Buffers (bytes_in subfile.now) window (length file.old) (length packed.now) }
     ensures { let a = window.start.0 in
-        file.new ≡ scattered (belongs subfile.now.selection subfile.now.families.now) a (window.end.0 - a) packed.now file.old }
+        file.new ≡ scattered (bytes_in subfile.now) a (window.end.0 - a) packed.now file.old }
 {
     if window.end.0 <= window.start.0 {
         return;

@@ -1,6 +1,6 @@
 // A walk over the selected runs of a window, from one to the next: no work for what lies between.
 ghost use Rattle.std.specs.Prelude.{◌≡◌, ◌+◌, ◌-◌, ◌%◌, ◌^◌, ◌≤◌, ◌<◌, min, length};
-ghost use Rattle.maps.specs.Selected.{belongs};
+ghost use Rattle.maps.specs.Lent.{bytes_in};
 ghost use Rattle.moves.specs.Strides.{stride_at, OnwardOk, onwards, furthers};
 ghost use Rattle.moves.specs.Walks.{Begun};
 
@@ -20,7 +20,7 @@ pub struct Walk {
 pub fn begin(subfile: &Subfile, start: FileOffset) -> Walk
     requires after { subfile.now.selection.from ≤ start.0 }
     requires near { start.0 < 2 ^ 40 }
-    ensures { Begun subfile.now.selection (belongs subfile.now.selection subfile.now.families.now) start.0 result }
+    ensures { Begun subfile.now.selection (bytes_in subfile.now) start.0 result }
 {
     let s = subfile.selection;
     let from = u64::from(s.from);

@@ -50,7 +50,7 @@ pub enum Refusal {
     Room(u64),
 }
 
-// What an element selects of the file: its selection, of the families of its sheet's layout.
+// What an element selects of the file: its selection, of the families of its sheet's layout. It owns the layout, of which a `Subfile` lends the families.
 #[derive(Clone, Copy)]
 pub struct Opening {
     pub layout: Layout,

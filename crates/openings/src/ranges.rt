@@ -42,7 +42,8 @@ pub fn check_offset(from: u32, x: FileOffset) -> Result<(), Refusal>
     Ok(())
 }
 
-// Of an interval or a window from a to b, where b may be `most`.
+// Of an interval or a window from a to b, where b may be `most`. The ends stand apart here and in all calls: a `Window` (maps) is in order by its type,
+// which is what is being checked.
 #[tactic(auto, using(crate::proofs::Faults::range_back, crate::proofs::Faults::range_before, crate::proofs::Faults::range_far, crate::proofs::Faults::range_within))]
 pub fn check_range(most: u64, from: u32, a: FileOffset, b: FileOffset) -> Result<(), Refusal>
     ensures { Verdict (unless_fault (range_tests most from a.0 b.0)) result }

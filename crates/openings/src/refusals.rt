@@ -7,6 +7,7 @@ use std::error::Error;
 use std::fmt;
 
 impl Which {
+    // A method beside the others here, and no `From<Which> for u8`, whose law could not be told by `sheet_number` alone.
     pub fn number(&self) -> u8
         ensures { result ≡ sheet_number self.now }
     {
@@ -17,6 +18,7 @@ impl Which {
     }
 }
 
+// Numbers of 01, and 0 for none, as `told` says them and programs print them. The enum itself tells a refusal without them.
 impl Refusal {
     pub fn number(&self) -> u8
         ensures { result ≡ (told self.now).number }

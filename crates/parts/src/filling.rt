@@ -1,7 +1,7 @@
 // Filling: an element's part of the second tray, piece by piece from the first.
 ghost use Rattle.std.specs.Prelude.{◌≡◌, length};
 ghost use Rattle.counting.specs.Trays.{in_tray};
-ghost use Rattle.maps.specs.Selected.{belongs};
+ghost use Rattle.maps.specs.Lent.{bytes_in};
 ghost use Rattle.moves.specs.Walks.{Carries};
 ghost use Rattle.parts.specs.Pieces.{bytes_of, elements_by, SourcesOk, takes, renewed};
 
@@ -23,7 +23,7 @@ pub fn fill_part(
     requires carries { Carries track.now.subfile.selection track.now.subfile.families.now window (length tray.now) (length part.old) }
     requires sources { SourcesOk sources.now window.start.0 (bytes_of window) }
     ensures { let L = elements_by sources.now.cycle sources.now.owners.now in let a = window.start.0 in let n = bytes_of window in
-        part.new ≡ renewed (belongs track.now.subfile.selection track.now.subfile.families.now) a n (takes L only) (in_tray L a n tray.now) part.old }
+        part.new ≡ renewed (bytes_in track.now.subfile) a n (takes L only) (in_tray L a n tray.now) part.old }
 {
     let bytes = tray.len();
     let mut walk = moves::begin(&track.subfile, window.start);

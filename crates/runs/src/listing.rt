@@ -3,7 +3,7 @@
 // The list is lent, four slots a run: that is the form that the call's caller has it in. `SideOk` relates a subfile with the size of a table and the
 // start of a window, which no one value holds: so it is a clause.
 ghost use Rattle.std.specs.Prelude.{◌≡◌, [], ◌∷◌, ◌+◌, ◌^◌, ◌<◌};
-ghost use Rattle.maps.specs.Selected.{belongs};
+ghost use Rattle.maps.specs.Lent.{bytes_in};
 ghost use Rattle.runs.specs.Listing.{Listed, filled, with_run};
 ghost use Rattle.runs.specs.Walking.{SideOk};
 
@@ -36,7 +36,7 @@ pub fn list_by_tables<const N: usize>(
     requires one { SideOk one.now.selection one.now.families.now N window.start.0 }
     requires two { SideOk two.now.selection two.now.families.now N window.start.0 }
     requires size { N < 2 ^ 62 }
-    ensures { let p = belongs one.now.selection one.now.families.now in let q = belongs two.now.selection two.now.families.now in
+    ensures { let p = bytes_in one.now in let q = bytes_in two.now in
         Listed p q window.start.0 window.end.0 list.old list.new result }
 {
     let mut table1 = [0u8; N];
@@ -68,7 +68,7 @@ pub fn list_by_tables<const N: usize>(
 pub fn list_shared(one: &Subfile, two: &Subfile, window: Window, list: &mut [u64]) -> u64
     requires one { SideOk one.now.selection one.now.families.now 65536 window.start.0 }
     requires two { SideOk two.now.selection two.now.families.now 65536 window.start.0 }
-    ensures { let p = belongs one.now.selection one.now.families.now in let q = belongs two.now.selection two.now.families.now in
+    ensures { let p = bytes_in one.now in let q = bytes_in two.now in
         Listed p q window.start.0 window.end.0 list.old list.new result }
 {
     if tables::fits(one, 2048) && tables::fits(two, 2048) {

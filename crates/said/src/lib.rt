@@ -9,7 +9,7 @@ ghost use Rattle.said.specs.Answers.{answer_of};
 
 use astrephon::{Facts, FileOffset, Interval, Refusal, SubfileOffset};
 
-// Number 0 is a call that did its work; values that it does not give are 0. It is seven words, and no enum, since programs print it and hand it on as such.
+// Number 0 is a call that did its work; values that it does not give are 0. It is seven words, and no enum, since that is what programs print and hand on: docs/FRAMES.md has the line, and `fields` (answers, specs/Lines) says it.
 #[derive(Clone, Copy, Debug, PartialEq, Eq)]
 pub struct Answer {
     pub number: u64,

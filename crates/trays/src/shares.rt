@@ -1,7 +1,8 @@
 // Shares: what each element has of a window.
 ghost use Rattle.std.specs.Prelude.{◌≡◌, ◌-◌, ◌≤◌, length};
 ghost use Rattle.counting.specs.Count.{count_below};
-ghost use Rattle.maps.specs.Selected.{belongs, elements_of};
+ghost use Rattle.maps.specs.Lent.{bytes_in};
+ghost use Rattle.maps.specs.Selected.{elements_of};
 ghost use Rattle.parts.specs.Pieces.{bytes_of, SharesOf};
 
 use crate::pattern::Pattern;
@@ -12,9 +13,9 @@ use parts::Share;
 // The share of a selection whose part starts at `start`.
 pub fn share_of(subfile: &Subfile, window: Window, start: TrayPlace) -> Share
     ensures start { result.start ≡ start }
-    ensures count { let p = belongs subfile.now.selection subfile.now.families.now in
+    ensures count { let p = bytes_in subfile.now in
         result.count ≡ count_below p window.end.0 - count_below p window.start.0 }
-    ensures before { let p = belongs subfile.now.selection subfile.now.families.now in
+    ensures before { let p = bytes_in subfile.now in
         result.before.0 ≡ count_below p window.start.0 }
     ensures size { result.size ≡ subfile.now.selection.size }
 {

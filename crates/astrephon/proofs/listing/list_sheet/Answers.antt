@@ -1,16 +1,18 @@
 -- `list_sheet` meets its contract. Assumes nothing.
+use mathlib.Core.Path.{refl}
 use native.Mathlib.Omega.{arith}
+use native.Mathlib.Nat.{zero-add}
 use Rattle.astrephon.proofs.Texts.{buffer_says, buffer_leaves, text_says, text_leaves}
 use Rattle.astrephon.proofs.listing.list_sheet.Goals as goal
 
-pub returns-then-text-n-clause-says : goal.returns-then-text-n-clause-says
-returns-then-text-n-clause-says c = buffer_says c.put_listing-n.ensures (omega arith) _ c.if-text-n.true
+pub returns-then-short-clause-says : goal.returns-then-short-clause-says
+returns-then-short-clause-says c = buffer_says c.put_listing-n.ensures (omega arith) _ (omega (arith, c.if-short.true))
 
-pub returns-then-text-n-clause-leaves : goal.returns-then-text-n-clause-leaves
-returns-then-text-n-clause-leaves c = buffer_leaves c.put_listing-n.ensures (omega arith) _ c.if-text-n.true
+pub returns-then-short-clause-leaves : goal.returns-then-short-clause-leaves
+returns-then-short-clause-leaves c = buffer_leaves c.put_listing-n.ensures (omega arith) _ (omega (arith, c.if-short.true))
 
 pub returns-clause-says : goal.returns-clause-says
-returns-clause-says c = text_says c.put_listing-n.ensures (omega arith) _ c.if-text-n.false
+returns-clause-says c = text_says c.put_listing-n.ensures (omega arith) _ (omega (arith, c.if-short.false))
 
 pub returns-clause-leaves : goal.returns-clause-leaves
-returns-clause-leaves c = text_leaves c.put_listing-n.ensures (omega arith) _ c.if-text-n.false c.copy_run.ensures
+returns-clause-leaves c = text_leaves c.put_listing-n.ensures (omega arith) _ (omega (arith, c.if-short.false)) (rw (c.copy_from_slice.ensures.after, zero-add) refl)
