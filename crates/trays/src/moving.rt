@@ -136,7 +136,8 @@ pub fn move_chosen(
     }
 }
 
-// Moves every byte of the window from its place in the first tray to its place in the second.
+// Moves every byte of the window from its place in the first tray to its place in the second. The layouts come by value, here and below, as 01 names them;
+// `Pattern`, which lends one, is made here.
 pub fn move_tray(
     layout1: Layout,
     size1: u32,
