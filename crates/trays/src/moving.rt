@@ -33,8 +33,7 @@ pub fn put_sources(
         elements_by (cycle_of t size) owners.new ≡ elements_of t size }
 {
     tables::fill_tables(pattern, owners, strides);
-    let mut counts = [0u32; 17];
-    tables::fill_ranks(owners, pattern.size as usize, &mut counts, ranks);
+    tables::fill_ranks(owners, pattern.size as usize, ranks);
     shares::share_out(pattern, window, shares);
 }
 

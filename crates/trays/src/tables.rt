@@ -31,11 +31,12 @@ pub fn fill_tables(pattern: &Pattern, owners: &mut [u8], strides: &mut [Stride])
     moves::fill_strides(owners, pattern.size as usize, &mut nexts, strides);
 }
 
-// How many places before each are its owner's. `counts` has a zero for each owner.
-pub fn fill_ranks(owners: &[u8], period: usize, counts: &mut [u32], ranks: &mut [u16])
-    requires { CountedOk owners.now period counts.old ranks.old }
+// How many places before each are its owner's.
+pub fn fill_ranks(owners: &[u8], period: usize, ranks: &mut [u16])
+    requires { CountedOk owners.now period ranks.old }
     ensures { Ranked owners.now period ranks.new }
 {
+    let mut counts = [0u32; 17];
     for place in 0..period {
         let owner = usize::from(owners[place]);
         let rank = counts[owner];
