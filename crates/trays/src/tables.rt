@@ -37,11 +37,11 @@ pub fn fill_ranks(owners: &[u8], period: usize, ranks: &mut [u16])
     ensures { Ranked owners.now period ranks.new }
 {
     let mut counts = [0u32; 17];
-    for place in 0..period {
+    for (place, rank) in ranks[..period].iter_mut().enumerate() {
         let owner = usize::from(owners[place]);
-        let rank = counts[owner];
-        ranks[place] = rank as u16;
-        counts[owner] = rank + 1;
+        let count = counts[owner];
+        *rank = count as u16;
+        counts[owner] = count + 1;
     }
 }
 
