@@ -49,11 +49,8 @@ pub fn fill_ranks(owners: &[u8], period: usize, ranks: &mut [u16])
 pub fn fits_all(pattern: &Pattern, room: u64) -> bool
     ensures { result ≡ true → FitsAll pattern.now.layout.now pattern.now.size room }
 {
-    for e in 0..pattern.layout.elements {
-        let subfile = maps::subfile_of(pattern.layout, pattern.size, e);
-        if !runs::fits(&subfile, room) {
-            return false;
-        }
-    }
-    true
+    (0..pattern.layout.elements).all(|e| runs::fits(
+        &maps::subfile_of(pattern.layout, pattern.size, e),
+        room,
+    ))
 }
