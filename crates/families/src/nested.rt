@@ -67,6 +67,7 @@ impl<'a> Nested<'a> {
         ensures { table.new ≡ painted (segments_of self.now.family (inner (forest_of self.now.children))) me table.old }
     {
         let stride = self.family.s as usize;
+        // not `step_by` or `chunks_mut`, which take no 0: one segment has the stride 0
         let mut from = self.family.l as usize;
         let mut to = self.family.r as usize + 1;
         for _ in 0..self.family.n {

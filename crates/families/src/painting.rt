@@ -6,7 +6,8 @@ ghost use Rattle.families.specs.Owners.{mark, painted, owner};
 
 use crate::Layout;
 
-// What a place that holds v holds once the element with the number me has it too.
+// What a place that holds v holds once the element with the number me has it too. 0 is nobody's and 255 is several's: an enum of three would take
+// two bytes a place, and the tables are fixed memory.
 pub(crate) fn marked(v: u8, me: u8) -> u8
     ensures { result ≡ mark me true v }
 {

@@ -9,6 +9,8 @@ use crate::{Family, Layout};
 
 // Sibling families, each followed by its descendants: `count` of them from index `first` on, `levels` levels deep at most.
 // `ruled` has the bound of a table and not that of 32 bits, which `inverse` alone asks for: `owners` takes a table of any length.
+// `first` is of the layout's whole array, whose spans tell where a sibling stands. The loops go over it by `split_first`: an `Iterator` of its own would say
+// by `next_gives` no more than `Split` says, and the loops' invariants are of what is left.
 #[derive(Clone, Copy)]
 pub struct Siblings<'a> {
     pub families: &'a [Family],
@@ -19,7 +21,7 @@ pub struct Siblings<'a> {
 }
 
 impl<'a> Siblings<'a> {
-    ghost use Rattle.std.specs.Prelude.{◌≡◌, ◌+◌, ◌-◌, ◌<◌, ◌≤◌, true, length};
+    ghost use Rattle.std.specs.Prelude.{◌≡◌, ◌+◌, ◌-◌, ◌<◌, ◌≤◌, length};
     ghost use Rattle.counting.specs.Count.{count_below, nth};
     ghost use Rattle.families.specs.Forest.{has, inner, end_of, size_of, Sound, WF};
     ghost use Rattle.families.specs.Lent.{forest_of, Split};

@@ -23,20 +23,6 @@ module _ (q : ℕ → Bool) (period : ℕ) where
   around_turn : (z y : ℕ) → z ≡ y + period → around q period z ≡ around q period y
   around_turn z y e = ap (around q period) e ∙ ap q (add-mod_right y period)
 
--- ---- past the last place, with none before `next` in the next period
-pub facing_start : {q : ℕ → Bool} {period next : ℕ} → period ≤ next → next < period + period → ((y : ℕ) → y < next - period → q y ≡ false)
-    → Facing q period (next - period) period 0 next
-facing_start {q} {period} {next} past near none =
-    let later : (z : ℕ) → period ≤ z → z ≤ next → around q period z ≡ q (z - period) =
-    λ z k l. around_turn q period z (z - period) (omega arith) ∙ around_at q period (z - period) (omega arith) in
-    record {
-      inside = omega arith;
-      before = omega arith;
-      all = λ y l. absurd (omega arith);
-      none = λ z k l. later z (omega arith) (omega arith) ∙ none (z - period) (omega arith);
-      there = λ e. later next past (omega arith) ∙ e;
-    }
-
 module _ {q : ℕ → Bool} {period first u run next : ℕ} (F : Facing q period first u run next) where
   -- ---- the run from u on is the next one for what comes before it
   pub facing_turn : 0 < run → Facing q period first u 0 u

@@ -45,7 +45,7 @@ pub fn fill_strides(owners: &[u8], period: usize, nexts: &mut [usize], strides: 
     }
 }
 
-// The table of a selection, by way of a table of N zeros that is marked with one period of it.
+// The table of a selection, by way of a table of N zeros that is marked with one period of it. A const parameter has no type that says N ≤ 65536.
 pub fn look_ahead<const N: usize>(subfile: &Subfile, strides: &mut [Stride])
     requires small { N ≤ 65536 }
     requires fits { FitsTable subfile.now.selection subfile.now.families.now N }

@@ -10,7 +10,8 @@ use crate::track::Track;
 use crate::{ahead, walks};
 use maps::{Subfile, Window};
 
-// Puts packed bytes back to a window, run by run: the walk of `gather_runs`. One function for both would say no less, since each writes the other's buffer.
+// Puts packed bytes back to a window, run by run: the walk of `gather_runs`. One function for gathering and scattering, here and below, is no plainer: the
+// other buffer is lent to be written, and the promise is another.
 pub fn scatter_runs(track: &Track, window: Window, packed: &[u8], file: &mut [u8])
     requires { Carries track.now.subfile.selection track.now.subfile.families.now window (length file.old) (length packed.now) }
     ensures { let a = window.start.0 in

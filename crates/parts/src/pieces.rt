@@ -37,7 +37,7 @@ pub struct Sources<'a> {
 
 impl<'a> Sources<'a> {
     // The piece of at most `run` offsets from x on.
-    pub fn piece_at(&self, x: FileOffset, run: usize) -> Piece
+    pub(crate) fn piece_at(&self, x: FileOffset, run: usize) -> Piece
         requires { PieceOk self.now.cycle self.now.owners.now self.now.strides.now x.0 }
         ensures { result ≡ piece_at self.now.cycle self.now.owners.now self.now.strides.now x.0 run }
     {
@@ -55,7 +55,7 @@ impl<'a> Sources<'a> {
     }
 
     // Where a piece's bytes stand in the first tray.
-    pub fn source_of(&self, piece: Piece) -> TrayPlace
+    pub(crate) fn source_of(&self, piece: Piece) -> TrayPlace
         requires { SourceOk self.now.ranks.now self.now.shares.now piece }
         ensures { result.0 ≡ source_of self.now.ranks.now self.now.shares.now piece }
     {
@@ -65,7 +65,7 @@ impl<'a> Sources<'a> {
     }
 
     // How far on the owner's next offset after a piece can be: one that is shorter than the run has ended its owner's stretch.
-    pub fn beyond(&self, piece: Piece, run: usize) -> usize
+    pub(crate) fn beyond(&self, piece: Piece, run: usize) -> usize
         requires { piece.place < length self.now.strides.now }
         ensures ended { (piece.len < run → result ≡ (stride_at self.now.strides.now piece.place).hop + 1) }
         ensures whole { (run ≤ piece.len → result ≡ run) }

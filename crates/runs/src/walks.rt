@@ -1,6 +1,6 @@
 // A walk over file offsets with a table of each selection: no division and no look at the families on the way.
-ghost use Rattle.std.specs.Prelude.{◌≡◌, ◌&&◌, ◌^◌, ◌<◌};
-ghost use Rattle.runs.specs.Walking.{Marks, marked, next_side};
+ghost use Rattle.std.specs.Prelude.{◌≡◌, ◌^◌, ◌<◌};
+ghost use Rattle.runs.specs.Walking.{Marks, next_side};
 
 use families::{FileOffset, SubfileOffset};
 use maps::Selection;

@@ -38,7 +38,8 @@ pub fn read_records(sheet: &[u8], families: &mut [Family]) -> Result<Progress, R
     Ok(all)
 }
 
-// Reads `count` elements more. It calls itself for those after the first, so no more than 17 calls are open at once.
+// Reads `count` elements more. It calls itself for those after the first, so no more than 17 calls are open at once. A loop is no plainer:
+// this is the definition, case by case, and needs no invariant.
 pub fn read_elements(
     sheet: &[u8],
     count: u32,

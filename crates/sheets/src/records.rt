@@ -25,6 +25,8 @@ pub struct Limits {
     pub room: u32,
 }
 
+// A sheet goes with the place in it, here and in the other files, since definitions and refusals tell that place.
+
 // The first fault of a record before those of its body: another kind is due, its length is not `long`, which is its kind's, or its body is cut.
 #[tactic(auto, using(crate::proofs::Verdicts::head_kind, crate::proofs::Verdicts::head_length, crate::proofs::Verdicts::head_cut, crate::proofs::Verdicts::head_good))]
 pub fn head_fault(sheet: &[u8], at: usize, kind: u32, due: u32, long: u32) -> Result<(), Fault>

@@ -16,7 +16,7 @@ pub struct Step {
 }
 
 // Reads `count` siblings, the first at `at`. It calls itself for those after the first: each has taken room for a family, so no more than 257 calls
-// are open at once.
+// are open at once. A loop is no plainer: this is the definition, case by case, and needs no invariant.
 #[cycle(read_family_read_siblings)]
 pub fn read_siblings(
     sheet: &[u8],

@@ -1,7 +1,7 @@
 -- What `moving` asks of what it calls, and what it makes of the answers. Assumes nothing.
 use mathlib.Core.Path.{◌≡◌, sym, ap, ◌∙◌}
 use mathlib.Core.List.{List}
-use Prim.Native.Nat.{ℕ, ◌≤◌, ◌<◌}
+use Prim.Native.Nat.{ℕ, ◌≤◌}
 use native.Mathlib.Omega.{arith}
 use lib.ListN.{length}
 use lib.Seq.{take_all}
@@ -18,7 +18,7 @@ use Rattle.parts.specs.declared.shares.Share.{Share}
 use Rattle.parts.specs.Tabled.{Ranked}
 use Rattle.parts.specs.Pieces.{bytes_of, SharesOf, Written, every_pair, one_pair}
 use Rattle.trays.specs.Tables.{Tables}
-use Rattle.trays.specs.Parts.{cycle_of, Prepared, moved_where, ChosenOk}
+use Rattle.trays.specs.Parts.{cycle_of, Prepared, moved_where}
 use Rattle.trays.proofs.Layouts.{elements_length, elements_share, tables_strides, tables_ahead}
 use Rattle.trays.proofs.Choices.{length_where, where_all, where_pair}
 
@@ -83,10 +83,3 @@ module _ (L : Elements) (t2 : Layout) (size2 : ℕ) (P : PatternOk t2 size2) (w 
 
       pub moved_pair : (i j : ℕ) → c ≡ one_pair i j → v ≡ pair_moved L M a (bytes_of w) t i j u
       moved_pair i j one = e ∙ ap (λ (b : Chosen). moved_where L M a (bytes_of w) t b u) one ∙ where_pair L M a (bytes_of w) shared t u i j
-
--- both are choices that the code takes
-pub every_chosen : (c : Chosen) (one two : ℕ) → c ≡ every_pair two → ChosenOk c one two
-every_chosen c one two is = rw is (record { only = tt; ordered = omega arith; most = omega arith })
-
-pub pair_chosen : (c : Chosen) (i j one two : ℕ) → c ≡ one_pair i j → i < one → j < two → ChosenOk c one two
-pair_chosen c i j one two is h k = rw is (record { only = h; ordered = omega arith; most = omega arith })

@@ -1,5 +1,5 @@
 -- The loop of `fill_parts`: the chosen parts below j are filled, and the rest of the tray is as it was. Assumes nothing.
-use mathlib.Core.Path.{◌≡◌, refl, sym, ap, ◌∙◌}
+use mathlib.Core.Path.{◌≡◌, sym, ap, ◌∙◌}
 use mathlib.Core.Bool.{Bool}
 use mathlib.Core.List.{List, ◌++◌}
 use Rattle.std.specs.Prelude.{Option}
@@ -18,7 +18,6 @@ use Rattle.families.specs.declared.Layout.{Layout}
 use Rattle.maps.specs.declared.Selection.{Selection}
 use Rattle.maps.specs.declared.window.Window.{Window}
 use Rattle.maps.specs.Selected.{belongs, selection_of, elements_of, PatternOk}
-use Rattle.parts.specs.declared.choices.Chosen.{Chosen}
 use Rattle.parts.specs.declared.shares.Share.{Share}
 use Rattle.moves.specs.declared.ahead.Stride.{Stride}
 use Rattle.moves.specs.Strides.{Strides}
@@ -56,10 +55,6 @@ module _ {L M : Elements} {a n : ℕ} (once : Partition M a n) {t u₀ : List �
         upto = omega arith;
         is = rw (new, own, starts, long, P.is, add-one j) (where_more L M a n once t u₀ only first j P.from h);
       }
-
-pub parted_all : {L M : Elements} {a n : ℕ} {t u₀ : List ℕ} {c : Chosen} {u : List ℕ} {j : ℕ}
-    → Parted L M a n t u₀ c.only c.first c.last u j → c.last ≤ j → u ≡ moved_where L M a n t c u₀
-parted_all {c = c} {j = j} P h = let end : j ≡ c.last = omega (arith, P.upto) in P.is ∙ rw end refl
 
 -- ---- a round of the loop, for the parts of a layout
 module _ {t : Layout} {size : ℕ} {w : Window} {strides : List Stride} {shares : List Share} (ok : PatternOk t size) (T : Prepared t size w strides shares) where

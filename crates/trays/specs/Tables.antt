@@ -37,9 +37,8 @@ pub record Tables (t : Layout) (size : ℕ) (owners : List ℕ) (strides : List 
   pub each : (e : ℕ) → e < t.elements → Filled (held_by owners (suc e)) size strides
 
 -- what the code asks to count how many places before each are its owner's
-pub record CountedOk (owners : List ℕ) (period : ℕ) (counts ranks : List ℕ) : Type 0 where
+pub record CountedOk (owners : List ℕ) (period : ℕ) (ranks : List ℕ) : Type 0 where
   pub held : period ≤ length owners
   pub room : period ≤ length ranks
   pub short : period ≤ 2 ^ 16
-  pub zeros : counts ≡ replicate (length counts) 0
-  pub there : (u : ℕ) → u < period → get_or owners u 0 < length counts
+  pub there : (u : ℕ) → u < period → get_or owners u 0 < 17

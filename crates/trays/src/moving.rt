@@ -33,8 +33,7 @@ pub fn put_sources(
         elements_by (cycle_of t size) owners.new ≡ elements_of t size }
 {
     tables::fill_tables(pattern, owners, strides);
-    let mut counts = [0u32; 17];
-    tables::fill_ranks(owners, pattern.size as usize, &mut counts, ranks);
+    tables::fill_ranks(owners, pattern.size as usize, ranks);
     shares::share_out(pattern, window, shares);
 }
 
@@ -136,7 +135,8 @@ pub fn move_chosen(
     }
 }
 
-// Moves every byte of the window from its place in the first tray to its place in the second.
+// Moves every byte of the window from its place in the first tray to its place in the second. The layouts come by value, here and below, as 01 names them;
+// `Pattern`, which lends one, is made here.
 pub fn move_tray(
     layout1: Layout,
     size1: u32,

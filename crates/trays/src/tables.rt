@@ -31,16 +31,17 @@ pub fn fill_tables(pattern: &Pattern, owners: &mut [u8], strides: &mut [Stride])
     moves::fill_strides(owners, pattern.size as usize, &mut nexts, strides);
 }
 
-// How many places before each are its owner's. `counts` has a zero for each owner.
-pub fn fill_ranks(owners: &[u8], period: usize, counts: &mut [u32], ranks: &mut [u16])
-    requires { CountedOk owners.now period counts.old ranks.old }
+// How many places before each are its owner's.
+pub fn fill_ranks(owners: &[u8], period: usize, ranks: &mut [u16])
+    requires { CountedOk owners.now period ranks.old }
     ensures { Ranked owners.now period ranks.new }
 {
-    for place in 0..period {
+    let mut counts = [0u32; 17];
+    for (place, rank) in ranks[..period].iter_mut().enumerate() {
         let owner = usize::from(owners[place]);
-        let rank = counts[owner];
-        ranks[place] = rank as u16;
-        counts[owner] = rank + 1;
+        let count = counts[owner];
+        *rank = count as u16;
+        counts[owner] = count + 1;
     }
 }
 
@@ -48,11 +49,8 @@ pub fn fill_ranks(owners: &[u8], period: usize, counts: &mut [u32], ranks: &mut 
 pub fn fits_all(pattern: &Pattern, room: u64) -> bool
     ensures { result ≡ true → FitsAll pattern.now.layout.now pattern.now.size room }
 {
-    for e in 0..pattern.layout.elements {
-        let subfile = maps::subfile_of(pattern.layout, pattern.size, e);
-        if !runs::fits(&subfile, room) {
-            return false;
-        }
-    }
-    true
+    (0..pattern.layout.elements).all(|e| runs::fits(
+        &maps::subfile_of(pattern.layout, pattern.size, e),
+        room,
+    ))
 }
