@@ -64,7 +64,7 @@ impl Family {
     }
 
     // How many bytes below x a family without children selects. Document 000, section 6.1, MAP-AUX_f, line 2, is
-    // (x div s_f)(r_f - l_f + 1) + x mod s_f; a comment says where the page is mended. It goes in the page's steps, so it calls neither `segment_of` nor `place`.
+    // (x div s_f)(r_f - l_f + 1) + x mod s_f; a comment says where the page is mended. In the page's steps, so it calls neither `segment_of` nor `place`.
     pub(crate) fn leaf_rank(self, x: u32) -> u64
         requires { Stride self.l self.r self.s self.n }
         ensures { result ≡ count_below (leaf_of self) x }
