@@ -2,4 +2,4 @@ use Rattle.copies.proofs.Chunks.{SoFar}
 use Rattle.copies.proofs.copy_bytes.Given as goal
 
 abbrev pub invariant-loop-i : goal.invariant-loop-i
-invariant-loop-i l = SoFar l.src l.initial.dst l.from l.to l.n l.dst l.i
+invariant-loop-i l = SoFar l.src l.dst l.i
