@@ -1,4 +1,4 @@
--- Chunks of a run that follow or overlap each other make up the run: one law for bytes, chunks and loops. Assumes nothing.
+-- Chunks of a run that follow or overlap each other make up the run: one law for a byte and one for chunks. Assumes nothing.
 use mathlib.Core.Path.{◌≡◌, refl, sym, ap, ◌∙◌}
 use mathlib.Core.List.{List, [], ◌∷◌, ◌++◌}
 use Prim.Native.Nat.{ℕ, ◌+◌, ◌≤◌, ◌<◌}
