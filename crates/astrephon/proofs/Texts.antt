@@ -9,7 +9,6 @@ use lib.Dec.{ltb}
 use lib.ListN.{length, take, drop, length-append}
 use lib.Seq.{paste, length-take-le}
 use Rattle.sheets.specs.Refusals.{◌when◌}
-use Rattle.words.specs.Texts.{Put}
 use Rattle.openings.specs.declared.Refusal.TheVariants.{Buffer}
 use Rattle.openings.specs.Said.{done}
 use Rattle.openings.specs.Refusals.{BUFFER, refusal_says}
@@ -17,12 +16,9 @@ use Rattle.openings.proofs.Orders.{row_there, row_absent, fault_refused, fault_p
 use Rattle.astrephon.specs.Texts.{text_outcome}
 
 -- ---- a text of n bytes stands at the front of `whole`
-module _ {text before whole : List ℕ} {most n : ℕ} (P : Put text most 0 n before whole) (room : most ≤ length before) where
-  text_is : take n whole ≡ text
-  text_is = P.text
-
+module _ {text : List ℕ} (whole : List ℕ) {n : ℕ} (text_is : take n whole ≡ text) (room : n ≤ length whole) where
   text_long : length text ≡ n
-  text_long = ap length (sym text_is) ∙ length-take-le n whole (omega (arith, P.short, P.kept))
+  text_long = ap length (sym text_is) ∙ length-take-le n whole room
 
   -- the buffer is shorter, and nothing is written
   module _ (held : List ℕ) (over : length held < n) where

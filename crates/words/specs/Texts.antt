@@ -1,5 +1,5 @@
--- Words and numbers as bytes, and how they are put into a text. Assumes nothing: these are definitions.
-use Rattle.std.specs.Prelude.{◌≡◌, cond, List, [] as []ᴸ, ◌∷◌ as ◌∷ᴸ◌, ◌++◌, ℕ, zero, suc, ◌+◌, ◌/◌, ◌%◌, ◌≤◌, ltb, length, take}
+-- Words and numbers as bytes. Assumes nothing: these are definitions.
+use Rattle.std.specs.Prelude.{cond, List, [] as []ᴸ, ◌∷◌ as ◌∷ᴸ◌, ◌++◌, ℕ, zero, suc, ◌+◌, ◌/◌, ◌%◌, ltb}
 use Prim.Native.Char.{code}
 use Prim.Native.String.{String, [], ◌∷◌}
 
@@ -16,9 +16,3 @@ decimal_in (suc k) n = cond (ltb n 10) []ᴸ (decimal_in k (n / 10)) ++ ((48 + n
 -- a number of 64 bits has 20 digits at most
 abbrev pub decimal : ℕ → List ℕ
 decimal n = decimal_in 20 n
-
--- the piece was put at `at`, and ends at r, which is `most` bytes on at most
-pub record Put (piece : List ℕ) (most at r : ℕ) (before after : List ℕ) : Type 0 where
-  pub text : take r after ≡ take at before ++ piece
-  pub short : r ≤ at + most
-  pub kept : length after ≡ length before

@@ -1,35 +1,54 @@
-// Words: words and numbers, each put into a lent text at some place. The answer is where it ends, and where the next begins.
+// Words: words and numbers, each put into a lent text behind what is written of it.
 #![tactic(auto)]
 
-ghost use Rattle.std.specs.Prelude.{◌+◌, ◌≤◌, ◌++◌, length};
-ghost use Rattle.words.specs.Texts.{decimal, Put};
+ghost use Rattle.std.specs.Prelude.{◌≡◌, ◌+◌, ◌++◌, length};
+ghost use Rattle.words.specs.Texts.{decimal};
 
 use itoa::Buffer;
 
-// Puts a word.
-pub fn put(word: &[u8], text: &mut [u8], at: usize) -> usize
-    requires { at + length word.now ≤ length text.old }
-    ensures { Put word.now (length word.now) at result text.old text.new }
-{
-    let n = word.len();
-    copies::copy_run(word, 0, text, at, n);
-    at + n
+// A lent text, of which the first `len` bytes are written.
+#[derive(Drop)]
+pub struct Text<'a> {
+    pub bytes: &'a mut [u8],
+    pub len: usize,
 }
 
-// Puts n in decimal.
-pub fn put_number(n: u64, text: &mut [u8], at: usize) -> usize
-    requires { at + 20 ≤ length text.old }
-    ensures { Put (decimal n) 20 at result text.old text.new }
-{
-    let mut digits = Buffer::new();
-    put(digits.format(n).as_bytes(), text, at)
-}
+impl<'a> Text<'a> {
+    ghost use Rattle.words.specs.Written.{HasRoom, Put};
 
-// Puts a word and a number behind it.
-pub fn put_both(word: &[u8], n: u64, text: &mut [u8], at: usize) -> usize
-    requires { at + (length word.now + 20) ≤ length text.old }
-    ensures { let w = word.now in Put (w ++ decimal n) (length w + 20) at result text.old text.new }
-{
-    let end = put(word, text, at);
-    put_number(n, text, end)
+    // Lends the bytes; none of them is written.
+    pub fn new(bytes: &'a mut [u8]) -> Text<'a>
+        ensures lent { result.bytes ≡ bytes.entry }
+        ensures empty { result.len ≡ 0 }
+    {
+        Text { bytes, len: 0 }
+    }
+
+    // Puts a word.
+    pub fn put(&mut self, word: &[u8])
+        requires { HasRoom (length word.now) self.old }
+        ensures { Put word.now (length word.now) self.old self.new }
+    {
+        let n = word.len();
+        copies::copy_run(word, 0, self.bytes, self.len, n);
+        self.len += n;
+    }
+
+    // Puts n in decimal.
+    pub fn put_number(&mut self, n: u64)
+        requires { HasRoom 20 self.old }
+        ensures { Put (decimal n) 20 self.old self.new }
+    {
+        let mut digits = Buffer::new();
+        self.put(digits.format(n).as_bytes());
+    }
+
+    // Puts a word and a number behind it.
+    pub fn put_both(&mut self, word: &[u8], n: u64)
+        requires { HasRoom (length word.now + 20) self.old }
+        ensures { let w = word.now in Put (w ++ decimal n) (length w + 20) self.old self.new }
+    {
+        self.put(word);
+        self.put_number(n);
+    }
 }

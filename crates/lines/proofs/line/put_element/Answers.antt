@@ -5,4 +5,4 @@ use Rattle.lines.proofs.line.put_element.Goals as goal
 
 pub returns : goal.returns
 unfolding word
-returns c = put_element _ _ _ _ c.put_number-named.ensures c.put_both-sized.ensures (rw c.from.ensures at c.put_both-counted.ensures) (rw c.from-2.ensures at c.put_both-placed.ensures) c.put.ensures
+returns c = put_element _ _ _ _ c.put_number.ensures c.put_both.ensures (rw c.from.ensures at c.put_both-2.ensures) (rw c.from-2.ensures at c.put_both-3.ensures) c.put.ensures

@@ -14,4 +14,4 @@ unfolding word
 returns-in-Overlap c = rw c.in-Overlap.is (put_overlap _ refl c.put-in-Overlap.ensures)
 
 pub returns-in_default : goal.returns-in_default
-returns-in_default c = rw (other_flag _ c.in_default.not-Hole c.in_default.not-Overlap) (put_no_flag _ _)
+returns-in_default c = rw (other_flag _ c.in_default.not-Hole c.in_default.not-Overlap) (put_no_flag _)

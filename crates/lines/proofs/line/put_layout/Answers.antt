@@ -5,4 +5,4 @@ use Rattle.lines.proofs.line.put_layout.Goals as goal
 
 pub returns : goal.returns
 unfolding word
-returns c = put_layout _ _ _ (rw c.from.ensures at c.put_both-displaced.ensures) (rw c.from-2.ensures at c.put_both-sized.ensures) c.put_both-counted.ensures c.put.ensures
+returns c = put_layout _ _ _ (rw c.from.ensures at c.put_both.ensures) (rw c.from-2.ensures at c.put_both-2.ensures) c.put_both-3.ensures c.put.ensures

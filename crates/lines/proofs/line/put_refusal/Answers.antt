@@ -5,4 +5,4 @@ use Rattle.lines.proofs.line.put_refusal.Goals as goal
 
 pub returns : goal.returns
 unfolding word
-returns c = put_refusal _ _ _ (rw (c.from.ensures, c.number-number.ensures) at c.put_both-named.ensures) c.put_both-placed.ensures c.put_flag-flagged.ensures c.put.ensures
+returns c = put_refusal _ _ _ (rw (c.from.ensures, c.number.ensures) at c.put_both.ensures) c.put_both-2.ensures c.put_flag.ensures c.put.ensures

@@ -3,4 +3,4 @@ use Rattle.lines.proofs.Lines.{put_accepted}
 use Rattle.lines.proofs.listing.put_accepted.Goals as goal
 
 pub returns : goal.returns
-returns c = put_accepted _ _ c.put_layout-end.ensures c.put_trees.ensures
+returns c = put_accepted _ _ c.put_layout.ensures c.put_trees.ensures

@@ -1,6 +1,6 @@
--- `put_listing` meets its contract. Assumes nothing.
+-- `put_sheet` meets its contract. Assumes nothing.
 use Rattle.lines.proofs.Lines.{listed_accepted, listed_refused, listable}
-use Rattle.lines.proofs.listing.put_listing.Goals as goal
+use Rattle.lines.proofs.listing.put_sheet.Goals as goal
 
 pub returns-in-Err : goal.returns-in-Err
 returns-in-Err c = listed_refused _ _ c.in-Err.ensures c.put_refusal.ensures

@@ -2,7 +2,7 @@
 use Rattle.std.proofs.Common.{◌∙◌}
 use native.Mathlib.Omega.{arith}
 use Rattle.words.proofs.Puts.{put_printed}
-use Rattle.words.proofs.put_number.Goals as goal
+use Rattle.words.proofs.Text.put_number.Goals as goal
 
 pub put-requires : goal.put-requires
 put-requires c = rw c.as_bytes.ensures.value (omega (arith, c.format.ensures.fits, c.requires))
