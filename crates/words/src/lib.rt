@@ -7,6 +7,7 @@ ghost use Rattle.words.specs.Texts.{decimal};
 use itoa::Buffer;
 
 // A lent text, of which the first `len` bytes are written.
+// Clauses see the fields, with no model over them: only by the ghost name of `bytes` does their lender learn what they hold afterwards.
 #[derive(Drop)]
 pub struct Text<'a> {
     pub bytes: &'a mut [u8],
