@@ -2,7 +2,7 @@
 use mathlib.Core.Path.{◌≡◌, refl, sym, ap₂, ◌∙◌}
 use mathlib.Core.Bool.{true, false, cond}
 use mathlib.Core.Logic.{⊎_elim}
-use Prim.Native.Nat.{ℕ, suc, ◌+◌, ◌-◌, ◌*◌, ◌/◌, ◌%◌, ◌≤◌, ◌<◌, min}
+use Prim.Native.Nat.{ℕ, suc, ◌+◌, ◌-◌, ◌*◌, ◌/◌, ◌%◌, ◌^◌, ◌≤◌, ◌<◌, min}
 use native.Mathlib.Nat.{suc-mul, mul-le-mul_right, min-eq_left, min-eq_right}
 use native.Mathlib.Omega.{arith}
 use lib.Dec.{leb, ltb}
@@ -23,6 +23,10 @@ module _ (l r s n x : ℕ) (st : Stride l r s n) where
 
   pub in_within : (q w last : ℕ) → l ≤ x → q < n → q ≡ (x - l) / s → w ≡ (x - l) % s → last ≡ r - l → leb w last ≡ in_segments (λ _. true) l r s n x
   in_within q w last h m e f g = sym (leaf_div l r s n x st ∙ rw (le-leb l x h, lt-ltb ((x - l) / s) n (omega arith), f, g) refl)
+
+-- what a rank in one family multiplies and adds fits
+pub sum_fits : (k len w : ℕ) → k < 2 ^ 32 → len ≤ 2 ^ 32 → w < 2 ^ 32 → k * len + w < 2 ^ 64
+sum_fits k len w h m j = omega (arith, mul-le-mul_right {m = k} {n = 2 ^ 32 - 1} len (omega arith))
 
 -- `leaf_rank`: the two caps leave whole segments and a part of the next one
 caps : (q w n len : ℕ) → min (q * len + min w len) (n * len) ≡ min q n * len + cond (ltb q n) (min w len) 0
