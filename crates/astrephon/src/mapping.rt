@@ -1,4 +1,4 @@
-// Mapping offsets between the file and the subfile of one element.
+// Mapping offsets between the file and the subfile of one element. Each is a call of its own, with theorems of its own.
 ghost use Rattle.std.specs.Prelude.{◌≡◌};
 ghost use Rattle.astrephon.specs.Says.{says, subfile_value, file_value, interval_values};
 ghost use Rattle.astrephon.specs.Maps.{exact_call, next_call, inverse_call, span_call};

@@ -1,4 +1,4 @@
-// Moving bytes from a tray of one sheet's layout to a tray of another's.
+// Moving bytes from a tray of one sheet's layout to a tray of another's. Each is a call of its own, with theorems of its own.
 ghost use Rattle.std.specs.Prelude.{◌≡◌};
 ghost use Rattle.astrephon.specs.Says.{says, no_values};
 ghost use Rattle.astrephon.specs.Moves.{move_call, pair_move_call};

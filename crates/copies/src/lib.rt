@@ -8,7 +8,8 @@ ghost use Rattle.std.specs.Prelude.{◌≡◌, ◌+◌, ◌≤◌, ◌<◌, leng
 ghost use Rattle.std.proofs.Math.Seq.{paste};
 
 // Copies the n bytes of src from index `from` on to dst, from index `to` on. Every other byte of dst stays. The bounds are asked for
-// here alone: within, a run is two slices of one length.
+// here alone: within, a run is two slices of one length. That they are is a clause, and no struct holds both: no plainer, for its
+// lender would learn by a ghost name alone what dst holds.
 pub fn copy_run(src: &[u8], from: usize, dst: &mut [u8], to: usize, n: usize)
     requires { (from + n ≤ length src.now) × (to + n ≤ length dst.old) }
     ensures { dst.new ≡ paste dst.old to (drop from src.now) n }

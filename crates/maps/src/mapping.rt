@@ -14,7 +14,8 @@ pub fn tray_place(part: TrayPlace, first: SubfileOffset, y: SubfileOffset) -> Tr
     TrayPlace(part.0 + (y.0 - first.0))
 }
 
-// What element `element` of a layout selects of the file, where the layout's pattern has `size` offsets.
+// What element `element` of a layout selects of the file, where the layout's pattern has `size` offsets. Layout and size are two parameters, here and below:
+// an accepted sheet has them in a `Sheet`, a move in its `Pattern`.
 pub fn selection_of(layout: &Layout, size: u32, element: usize) -> Selection
     requires ruled { LayoutOk 4 65535 layout.now }
     requires there { element < layout.now.elements }

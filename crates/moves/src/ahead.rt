@@ -19,6 +19,8 @@ pub struct Stride {
 // What stands in a table before it is filled.
 pub const NO_STRIDE: Stride = Stride { run: 0, hop: 0 };
 
+// One period for all tables, here and in trays: slices cut to it would be no plainer, for a clause would have to say that they are equally long.
+//
 // Fills the table from the last place back to the first. `nexts` has by owner where its next run starts, first that of the next period.
 pub fn fill_strides(owners: &[u8], period: usize, nexts: &mut [usize], strides: &mut [Stride])
     requires nexts { Nexts owners.now period nexts.old }
@@ -45,7 +47,8 @@ pub fn fill_strides(owners: &[u8], period: usize, nexts: &mut [usize], strides: 
     }
 }
 
-// The table of a selection, by way of a table of N zeros that is marked with one period of it. A const parameter has no type that says N ≤ 65536.
+// The table of a selection, by way of a table of N zeros that is marked with one period of it. A const parameter has no type that says N ≤ 65536, and `FitsTable`
+// relates it with a subfile.
 pub fn look_ahead<const N: usize>(subfile: &Subfile, strides: &mut [Stride])
     requires small { N ≤ 65536 }
     requires fits { FitsTable subfile.now.selection subfile.now.families.now N }

@@ -34,7 +34,8 @@ pub fn begin(subfile: &Subfile, start: FileOffset) -> Walk
     }
 }
 
-// How many bytes follow without a gap, in a window of `bytes`.
+// How many bytes follow without a gap, in a window of `bytes`. Strides and a selection, and no `Track`, here and below: read anew for each run, a lent
+// track costs 7 instructions a piece (docs/PERFORMANCE.md), and a pair move would miss its aim.
 pub fn run_here(strides: &[Stride], walk: Walk, bytes: usize) -> usize
     requires held { walk.place < length strides.now }
     requires inside { walk.at ≤ bytes }
@@ -73,7 +74,7 @@ pub fn further(strides: &[Stride], s: Selection, walk: Walk, run: usize, len: us
     }
 }
 
-// A place at most one period too far, back in the period: without a division, which each run would pay for.
+// A place at most one period too far, back in the period: a remainder would be no plainer where it is used, and a division for every run.
 fn around(place: usize, period: usize) -> usize
     requires { place < period + period }
     ensures { result ≡ place % period }

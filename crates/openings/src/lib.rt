@@ -65,7 +65,7 @@ pub struct Pair {
     pub two: Opening,
 }
 
-// Two sheets, both accepted.
+// Two sheets, both accepted. No plainer as one generic type with `Pair`: the methods are of sheets alone.
 #[derive(Clone, Copy)]
 pub struct Sheets {
     pub one: Sheet,

@@ -1,4 +1,5 @@
 // Opening an element of a sheet, also for an offset, a window, or a window and two buffers. Each of these opens as the one before it does, and checks more.
+// A sheet and an index come apart, as docs/CALLS.md has the calls.
 ghost use Rattle.std.specs.Prelude.{◌≡◌, ◌-◌, ◌≤◌, ◌<◌};
 ghost use Rattle.counting.specs.Count.{count_below};
 ghost use Rattle.sheets.specs.Sheet.{read_sheet};

@@ -6,7 +6,7 @@ ghost use Rattle.openings.specs.Openings.{Reads};
 use crate::{Refusal, Which};
 use sheets::Sheet;
 
-// A sheet that is accepted, or its refusal. A match, since a closure for `map_err` would have to say by a contract of its own what it answers.
+// A sheet that is accepted, or its refusal. A match: with `map_err` the proof did not close (tried), since of the closure's answer nothing was known.
 pub fn read(which: Which, sheet: &[u8]) -> Result<Sheet, Refusal>
     ensures { Reads (sheet_number which) (read_sheet sheet.now) result }
 {

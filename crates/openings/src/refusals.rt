@@ -7,7 +7,7 @@ use std::error::Error;
 use std::fmt;
 
 impl Which {
-    // A method beside the others here, and no `From<Which> for u8`, whose law could not be told by `sheet_number` alone.
+    // A method beside the others here: a `From<Which> for u8` is no plainer, since its law would be a relation that says what this clause does.
     pub fn number(&self) -> u8
         ensures { result ≡ sheet_number self.now }
     {

@@ -31,7 +31,8 @@ impl<'a> Track<'a> {
         self.one.table[walk.one.place] + self.two.table[walk.two.place] == 2
     }
 
-    // Goes on from where `from` stands while both selections have the offset, or while not both do, but not past the end.
+    // Goes on from where `from` stands while both selections have the offset, or while not both do, but not past the end. `wanted` is a bool: it is
+    // compared with what both tables say, and a closure would be called for every offset.
     pub fn pass(&self, from: Walk, wanted: bool) -> Walk
         requires { WalksOn self.now from }
         ensures { PassedOn self.now wanted from.x.0 result }

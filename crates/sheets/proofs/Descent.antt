@@ -19,6 +19,11 @@ use Rattle.sheets.proofs.Shapes.{node_at}
 use Rattle.sheets.proofs.Answered.{unless_refuses}
 
 -- ---- one step of the reader
+pub unless_fault_lem : {A : Type 0} (k place : ℕ) (next : Read A) → (k ≡ 0 → ⊥) → unless k place next ≡ refused k place
+unfolding unless
+unless_fault_lem zero place next h = absurd (h refl)
+unless_fault_lem (suc k) place next h = refl
+
 module _ {A B : Type 0} (k place : ℕ) (first : Read A) (next : A → Read B) (fine : k ≡ 0) where
   pub first_refused : (number at : ℕ) → first ≡ refused number at → unless k place (and_then first next) ≡ refused number at
   unfolding unless and_then

@@ -1,4 +1,4 @@
-// Numbers in a sheet's bytes, the lowest byte first.
+// Numbers in a sheet's bytes, the lowest byte first. Two functions, since each is one `from_le_bytes` of another type and has a definition of its own.
 ghost use Rattle.std.specs.Prelude.{◌≡◌, ◌+◌, ◌≤◌, ◌<◌, length};
 ghost use Rattle.sheets.specs.Bytes.{le16, le32};
 

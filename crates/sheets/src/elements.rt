@@ -10,7 +10,7 @@ use crate::{digits, records, trees};
 use families::{Element, Family};
 
 // How far a sheet was read: where the next record starts, the first offset past all families, how many elements and families there are, and the
-// elements.
+// elements: an array with its count, as the layout has it, the form that 01 names.
 #[derive(Clone, Copy)]
 pub struct Progress {
     pub place: usize,

@@ -20,7 +20,7 @@ pub fn pattern_size(layout: Layout) -> u32
     sum as u32
 }
 
-// The first place that holds 0 or 255.
+// The first place that holds 0, nobody's, or 255, several's: bytes, since an enum of three cases would take two a place, and tables are fixed memory.
 pub fn scan(table: &[u8]) -> Option<usize>
     ensures { result ≡ position (λ v. v == 0 || v == 255) table.now }
 {

@@ -18,6 +18,7 @@ pub const ELEMENT: u32 = 2;
 pub const FAMILY: u32 = 3;
 
 // What is allowed where a family stands: its last byte is at most `bound`, it starts at `from` or later, and there is room for `room` families.
+// They go with the levels left, which the definitions tell apart from them; `room` is tested where no families are lent.
 #[derive(Clone, Copy)]
 pub struct Limits {
     pub bound: u32,

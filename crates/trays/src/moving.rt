@@ -14,7 +14,7 @@ use maps::Window;
 use moves::{NO_STRIDE, Stride};
 use parts::{Chosen, Cycle, NO_SHARE, Share, Sources};
 
-// Writes down what of the first layout a piece is found by.
+// Writes down what of the first layout a piece is found by: in four tables that are lent to be written, where `Sources` lends them to be read.
 pub fn put_sources(
     pattern: &Pattern,
     window: Window,
@@ -109,7 +109,8 @@ pub fn move_by_tables<const N: usize>(
     filling::fill_parts(&targets, &sources, window, chosen, tray1, tray2);
 }
 
-// Moves what is chosen. An empty window has nothing. `Lengths`, here and below, relates a window with two lent trays: so it is a clause.
+// Moves what is chosen. An empty window has nothing. `ChosenOk` relates what is chosen with both layouts, and `Lengths`, here and
+// below, a window with two lent trays: so they are clauses.
 pub fn move_chosen(
     first: &Pattern,
     second: &Pattern,

@@ -14,6 +14,7 @@ pub struct Text<'a> {
     pub len: usize,
 }
 
+// That there is room is a clause of what puts: each piece asks for another number of bytes.
 impl<'a> Text<'a> {
     ghost use Rattle.words.specs.Written.{HasRoom, Put};
 
