@@ -10,9 +10,8 @@ use Rattle.counting.specs.Gather.{in_file, gathered, scattered}
 use Rattle.counting.specs.Trays.{moved, pair_moved}
 use Rattle.counting.proofs.Counts.{count_window}
 use Rattle.counting.proofs.Gathers.{length_gathered}
-use Rattle.sheets.specs.Reading.{Reading}
 use Rattle.sheets.specs.Refusals.{first_fault}
-use Rattle.sheets.specs.Sheet.{read_sheet}
+use Rattle.sheets.specs.Sheet.{read_sheet, Reading}
 use Rattle.openings.specs.Said.{done, Outcome, writing}
 use Rattle.openings.specs.Refusals.{ELEMENT}
 use Rattle.openings.specs.Offsets.{offsets_of, pair_tests, both_from}

@@ -2,7 +2,7 @@
 use mathlib.Core.List.{List}
 use Prim.Native.Nat.{ℕ, ◌≤◌}
 use Rattle.families.specs.declared.Family.{Family}
-use Rattle.sheets.specs.Reading.{Reading}
+use Rattle.sheets.specs.Sheet.{Reading}
 use Rattle.maps.specs.declared.Selection.{Selection}
 use Rattle.openings.proofs.Opens.{Opened}
 use Rattle.runs.specs.Walking.{SideOk}

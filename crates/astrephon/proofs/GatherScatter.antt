@@ -6,8 +6,7 @@ use Prim.Native.Nat.{ℕ, ◌-◌}
 use lib.ListN.{length}
 use Rattle.counting.specs.Gather.{in_file, gathered, scattered}
 use Rattle.counting.proofs.Scatters.{length_scattered, scatter_gather, gather_scatter, scatter_scatter, scatter_comm}
-use Rattle.sheets.specs.Reading.{Reading}
-use Rattle.sheets.specs.Sheet.{read_sheet}
+use Rattle.sheets.specs.Sheet.{read_sheet, Reading}
 use Rattle.openings.specs.Offsets.{offsets_of}
 use Rattle.astrephon.specs.Sequences.{Takes}
 use Rattle.astrephon.proofs.Contracts.{Carried, Done, Made, Gather, Scatter}

@@ -8,8 +8,7 @@ use lib.ListN.{length}
 use borrow.Author.Tests.{le-leb, lt-leb}
 use Rattle.counting.specs.Runs.{Run}
 use Rattle.families.specs.declared.Family.{Family}
-use Rattle.sheets.specs.Reading.{Reading}
-use Rattle.sheets.specs.Sheet.{read_sheet}
+use Rattle.sheets.specs.Sheet.{read_sheet, Reading}
 use Rattle.maps.specs.Selected.{belongs}
 use Rattle.maps.specs.declared.Selection.{Selection}
 use Rattle.maps.specs.Windows.{WindowOk}

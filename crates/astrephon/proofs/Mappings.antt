@@ -14,7 +14,7 @@ use Rattle.counting.proofs.Periods.{owns_none}
 use Rattle.families.specs.declared.Family.{Family}
 use Rattle.families.specs.Forest.{has}
 use Rattle.families.specs.Decoded.{tree_of}
-use Rattle.sheets.specs.Reading.{Reading}
+use Rattle.sheets.specs.Sheet.{Reading}
 use Rattle.maps.specs.Selected.{belongs, Byte}
 use Rattle.maps.proofs.BytesOf.{inverse_near, inverse_far}
 use Rattle.openings.specs.declared.Refusal.TheVariants.{Far, Foreign}

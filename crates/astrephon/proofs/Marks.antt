@@ -10,8 +10,7 @@ use Rattle.counting.proofs.Cases.{lt_or_le, above}
 use Rattle.counting.proofs.Nths.{rank_at_most}
 use Rattle.families.specs.declared.FileOffset.{FileOffset}
 use Rattle.families.specs.declared.SubfileOffset.{SubfileOffset}
-use Rattle.sheets.specs.Reading.{Reading}
-use Rattle.sheets.specs.Sheet.{read_sheet}
+use Rattle.sheets.specs.Sheet.{read_sheet, Reading}
 use Rattle.openings.specs.declared.Refusal.{Refusal}
 use Rattle.openings.specs.Offsets.{LIMIT, offsets_of, rank_of, place_of}
 use Rattle.openings.proofs.Orders.{never_both}

@@ -14,8 +14,7 @@ use Rattle.counting.proofs.Cases.{lt_or_le}
 use Rattle.counting.proofs.Gathers.{tabulated_ext, tabulated_whole}
 use Rattle.counting.proofs.Elements.{element_tabulated}
 use Rattle.counting.proofs.Scatters.{length_scattered, scattered_all_lem}
-use Rattle.sheets.specs.Reading.{Reading}
-use Rattle.sheets.specs.Sheet.{read_sheet}
+use Rattle.sheets.specs.Sheet.{read_sheet, Reading}
 use Rattle.openings.specs.Offsets.{offsets_of}
 use Rattle.astrephon.specs.Moves.{elements_read}
 use Rattle.astrephon.specs.Sequences.{Takes, Forward, Packs}

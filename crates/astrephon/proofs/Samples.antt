@@ -12,11 +12,10 @@ use Rattle.families.specs.Forest.{Forest, nil, node, any_below, in_segments, has
 use Rattle.families.specs.Decoded.{siblings, forest_at, tree_of}
 use Rattle.families.specs.Flat.{width, total, flat, totals, flats, elements_at, layout_of}
 use Rattle.families.proofs.Figures.{pairs, singles}
-use Rattle.sheets.specs.Reading.{Reading}
 use Rattle.sheets.specs.Refusals.{first_fault, unless, and_then}
 use Rattle.sheets.specs.Bytes.{le16, le32, two, four}
 use Rattle.sheets.specs.Records.{length_of, head_tests, family_record, bad_segment, family_tests, header_tests, element_tests, body_tests, fault}
-use Rattle.sheets.specs.Sheet.{siblings_from, forest_from, elements_from, elements_of, accepted, judged, answer, read_sheet}
+use Rattle.sheets.specs.Sheet.{siblings_from, forest_from, elements_from, elements_of, accepted, judged, answer, read_sheet, Reading}
 use Rattle.sheets.specs.Pattern.{sizes, first_uneven}
 use Rattle.sheets.specs.Encode.{family_bytes, forest_bytes, element_bytes, elements_bytes, encode}
 use Rattle.openings.specs.Said.{Said, done, Outcome, writing}

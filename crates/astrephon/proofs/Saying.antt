@@ -8,8 +8,7 @@ use lib.ListN.{get_or}
 use Rattle.std.specs.Prelude.{Ok, Err}
 use Rattle.families.specs.declared.FileOffset.{FileOffset}
 use Rattle.families.specs.declared.SubfileOffset.{SubfileOffset}
-use Rattle.sheets.specs.Refusals.{SHORT, KIND, LENGTH, COUNT, MANY, SEGMENT, SPAN, ORDER, DEPTH, TRAILING, HOLE}
-use Rattle.sheets.specs.Answered.{fault_number, fault_flag}
+use Rattle.sheets.specs.Refusals.{SHORT, KIND, LENGTH, COUNT, MANY, SEGMENT, SPAN, ORDER, DEPTH, TRAILING, HOLE, fault_number, fault_flag}
 use Rattle.sheets.specs.declared.refusals.Fault.{Fault}
 use Rattle.sheets.specs.declared.refusals.Fault.TheVariants as fault
 use Rattle.sheets.specs.declared.refusals.Refused.{Refused}

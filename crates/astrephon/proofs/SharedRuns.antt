@@ -13,8 +13,7 @@ use Rattle.counting.specs.Runs.{total, covers, Spaced, Maximal}
 use Rattle.counting.proofs.Cases.{by_test}
 use Rattle.counting.proofs.Runs.{runs_spaced, runs_cover, runs_maximal}
 use Rattle.counting.proofs.RunCounts.{runs_total}
-use Rattle.sheets.specs.Reading.{Reading}
-use Rattle.sheets.specs.Sheet.{read_sheet}
+use Rattle.sheets.specs.Sheet.{read_sheet, Reading}
 use Rattle.openings.specs.Said.{Said, done}
 use Rattle.openings.specs.declared.Refusal.TheVariants.{Room}
 use Rattle.openings.specs.Offsets.{LIMIT, offsets_of, window_tests, both_from}

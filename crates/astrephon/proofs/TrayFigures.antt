@@ -12,8 +12,7 @@ use Rattle.counting.specs.Trays.{moved}
 use Rattle.families.specs.Forest.{Forest, nil, node, any_below, in_segments, has, end_of, size_of}
 use Rattle.families.specs.Decoded.{siblings, forest_at}
 use Rattle.families.specs.Flat.{width, total, flat, totals, flats, elements_at, layout_of}
-use Rattle.sheets.specs.Reading.{Reading}
-use Rattle.sheets.specs.Sheet.{accepted, read_sheet}
+use Rattle.sheets.specs.Sheet.{accepted, read_sheet, Reading}
 use Rattle.sheets.specs.Pattern.{sizes}
 use Rattle.openings.specs.Said.{done}
 use Rattle.openings.specs.Offsets.{LIMIT, offsets_of}

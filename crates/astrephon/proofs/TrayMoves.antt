@@ -6,8 +6,7 @@ use native.Mathlib.Omega.{arith}
 use lib.ListN.{length}
 use Rattle.counting.specs.Elements.{Elements}
 use Rattle.counting.specs.Trays.{moved, pair_moved}
-use Rattle.sheets.specs.Reading.{Reading}
-use Rattle.sheets.specs.Sheet.{read_sheet}
+use Rattle.sheets.specs.Sheet.{read_sheet, Reading}
 use Rattle.maps.specs.declared.window.Window.{Window}
 use Rattle.maps.specs.Windows.{WindowOk}
 use Rattle.maps.specs.Selected.{elements_of}

@@ -13,8 +13,7 @@ use Rattle.counting.proofs.Elements.{element_tabulated, elements_apart}
 use Rattle.counting.proofs.Trays.{tray_length, tray_at, place_within, place_injective, place_surjective}
 use Rattle.families.specs.Forest.{has}
 use Rattle.families.specs.Decoded.{tree_of, selections}
-use Rattle.sheets.specs.Reading.{Reading}
-use Rattle.sheets.specs.Sheet.{read_sheet}
+use Rattle.sheets.specs.Sheet.{read_sheet, Reading}
 use Rattle.sheets.proofs.Accepted.{accepted_law}
 use Rattle.openings.specs.Offsets.{offsets_of}
 use Rattle.astrephon.specs.Moves.{elements_read}

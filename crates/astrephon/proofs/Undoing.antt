@@ -12,9 +12,8 @@ use Rattle.counting.specs.Elements.{Elements}
 use Rattle.counting.proofs.Nths.{nth_found, nth_exactly}
 use Rattle.families.specs.declared.FileOffset.{FileOffset}
 use Rattle.families.specs.declared.SubfileOffset.{SubfileOffset}
-use Rattle.sheets.specs.Reading.{Reading}
 use Rattle.sheets.specs.Refusals.{◌when◌}
-use Rattle.sheets.specs.Sheet.{read_sheet}
+use Rattle.sheets.specs.Sheet.{read_sheet, Reading}
 use Rattle.sheets.proofs.Accepted.{accepted_law}
 use Rattle.sheets.proofs.Faults.{no_fault}
 use Rattle.maps.specs.Selected.{Byte, ranks}

@@ -1,8 +1,7 @@
 -- THE CALLS between a file buffer and one element's packed bytes: `packed_len`, `gather` and `scatter`. Assumes nothing: these are definitions.
 use Rattle.std.specs.Prelude.{List, [], ◌∷◌, ℕ, ◌-◌, length}
 use Rattle.counting.specs.Gather.{in_file, gathered, scattered}
-use Rattle.sheets.specs.Reading.{Reading}
-use Rattle.sheets.specs.Sheet.{read_sheet}
+use Rattle.sheets.specs.Sheet.{read_sheet, Reading}
 use Rattle.openings.specs.Said.{Said, done, Outcome, writing}
 use Rattle.openings.specs.Offsets.{offsets_of, unless_window}
 use Rattle.openings.specs.Buffers.{packed_length, unless_buffers}

@@ -1,7 +1,6 @@
 -- THE CALL `check`: what it says of every list of bytes. Assumes nothing: these are definitions.
 use Rattle.std.specs.Prelude.{List, [], ◌∷◌, ℕ}
-use Rattle.sheets.specs.Reading.{Reading}
-use Rattle.sheets.specs.Sheet.{read_sheet}
+use Rattle.sheets.specs.Sheet.{read_sheet, Reading}
 use Rattle.openings.specs.Said.{Said, done}
 use Rattle.openings.specs.Refusals.{unless_sheet}
 

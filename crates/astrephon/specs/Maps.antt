@@ -1,8 +1,7 @@
 -- THE CALLS that map offsets between the file and an element's subfile: `exact`, `next`, `inverse` and `span`. Assumes nothing: these are definitions.
 use Rattle.std.specs.Prelude.{not, List, [], ◌∷◌, ℕ, leb}
-use Rattle.sheets.specs.Reading.{Reading}
 use Rattle.sheets.specs.Refusals.{◌when◌}
-use Rattle.sheets.specs.Sheet.{read_sheet}
+use Rattle.sheets.specs.Sheet.{read_sheet, Reading}
 use Rattle.openings.specs.Said.{Said, done}
 use Rattle.openings.specs.Refusals.{FAR, FOREIGN, unless_fault}
 use Rattle.openings.specs.Offsets.{LIMIT, offsets_of, rank_of, place_of, interval_tests, unless_element, unless_offset}

@@ -3,8 +3,7 @@ use Rattle.std.specs.Prelude.{List, [], ℕ, ◌-◌, length}
 use Rattle.counting.specs.Gather.{tabulated}
 use Rattle.counting.specs.Elements.{Elements}
 use Rattle.counting.specs.Trays.{moved, pair_moved}
-use Rattle.sheets.specs.Reading.{Reading}
-use Rattle.sheets.specs.Sheet.{read_sheet}
+use Rattle.sheets.specs.Sheet.{read_sheet, Reading}
 use Rattle.openings.specs.Said.{done, Outcome, writing}
 use Rattle.openings.specs.Refusals.{unless_sheets}
 use Rattle.openings.specs.Offsets.{offsets_of, unless_elements}

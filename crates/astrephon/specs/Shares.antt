@@ -1,9 +1,8 @@
 -- THE CALL `shared_runs`: what it says, and its list afterwards. Assumes nothing: these are definitions.
 use Rattle.std.specs.Prelude.{cond, List, [], ◌∷◌, ℕ, leb, length}
 use Rattle.counting.specs.Runs.{Run}
-use Rattle.sheets.specs.Reading.{Reading}
 use Rattle.sheets.specs.Refusals.{NO_FLAG}
-use Rattle.sheets.specs.Sheet.{read_sheet}
+use Rattle.sheets.specs.Sheet.{read_sheet, Reading}
 use Rattle.openings.specs.Said.{Said, done, refused, Outcome, writing}
 use Rattle.openings.specs.Refusals.{ROOM}
 use Rattle.openings.specs.Offsets.{offsets_of, unless_windows}

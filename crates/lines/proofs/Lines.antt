@@ -13,11 +13,10 @@ use Rattle.families.proofs.Flats.{element_some, element_sound, element_ruled}
 use Rattle.std.specs.Prelude.{Ok, Err}
 use Rattle.sheets.specs.declared.Sheet.{Sheet}
 use Rattle.sheets.specs.declared.refusals.Refused.{Refused}
-use Rattle.sheets.specs.Reading.{Reading}
-use Rattle.sheets.specs.Answered.{fault_number, fault_flag, reading_of}
+use Rattle.sheets.specs.Answered.{reading_of}
 use Rattle.sheets.proofs.Answered.{number_some}
-use Rattle.sheets.specs.Refusals.{NO_FLAG, HOLE, OVERLAP}
-use Rattle.sheets.specs.Sheet.{read_sheet, refusal}
+use Rattle.sheets.specs.Refusals.{NO_FLAG, HOLE, OVERLAP, fault_number, fault_flag}
+use Rattle.sheets.specs.Sheet.{read_sheet, refusal, Reading}
 use Rattle.sheets.proofs.Accepted.{Accepted, accepted_law}
 use Rattle.words.specs.Texts.{word, decimal}
 use Rattle.words.specs.Written.{HasRoom, Put}

@@ -5,7 +5,7 @@ use Rattle.families.specs.declared.Layout.{Layout}
 use Rattle.families.specs.Forest.{Forest, has, end_of, size_of}
 use Rattle.families.specs.Decoded.{tree_of}
 use Rattle.families.specs.Flat.{total}
-use Rattle.sheets.specs.Reading.{Reading}
+use Rattle.sheets.specs.Sheet.{Reading}
 use Rattle.sheets.specs.Refusals.{HOLE, OVERLAP}
 use Rattle.words.specs.Texts.{word, decimal}
 

@@ -1,6 +1,6 @@
 // The lines of a listing, each put into a lent text. The words are fixed, and the numbers in decimal.
 ghost use Rattle.words.specs.Written.{HasRoom, Put};
-ghost use Rattle.sheets.specs.Answered.{fault_number, fault_flag};
+ghost use Rattle.sheets.specs.Refusals.{fault_number, fault_flag};
 ghost use Rattle.lines.specs.Listing.{layout_line, element_line, flag_word, refusal_line};
 
 use sheets::{Fault, Refused};

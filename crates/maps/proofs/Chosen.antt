@@ -15,7 +15,7 @@ use Rattle.families.specs.Forest.{Forest, has, end_of, size_of}
 use Rattle.families.specs.Decoded.{element_of, tree_of, selections, LayoutOk}
 use Rattle.families.proofs.Forests.{size_at}
 use Rattle.families.proofs.Flats.{element_some, element_sound, element_size, element_small}
-use Rattle.sheets.specs.Reading.{Reading}
+use Rattle.sheets.specs.Sheet.{Reading}
 use Rattle.sheets.proofs.Accepted.{Accepted}
 use Rattle.maps.specs.declared.Selection.{Selection}
 use Rattle.maps.specs.Selected.{families_of, belongs, SelectionOk, selection_of, PatternOk}

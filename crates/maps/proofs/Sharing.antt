@@ -10,7 +10,7 @@ use Rattle.counting.specs.Elements.{times}
 use Rattle.counting.proofs.Cases.{lt_or_le}
 use Rattle.counting.proofs.Counts.{count_zero, count_suc}
 use Rattle.families.specs.Decoded.{selections}
-use Rattle.sheets.specs.Reading.{Reading}
+use Rattle.sheets.specs.Sheet.{Reading}
 use Rattle.sheets.proofs.Accepted.{Accepted}
 use Rattle.sheets.proofs.Tiling.{file_none}
 use Rattle.maps.specs.Selected.{ranks}

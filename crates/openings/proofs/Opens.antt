@@ -7,9 +7,8 @@ use native.Mathlib.Omega.{arith}
 use Rattle.counting.specs.Count.{count_below}
 use Rattle.families.specs.declared.Family.{Family}
 use Rattle.families.specs.Forest.{WF}
-use Rattle.sheets.specs.Reading.{Reading}
 use Rattle.sheets.specs.Refusals.{Test}
-use Rattle.sheets.specs.Sheet.{read_sheet}
+use Rattle.sheets.specs.Sheet.{read_sheet, Reading}
 use Rattle.sheets.proofs.Accepted.{accepted_law}
 use Rattle.maps.specs.declared.Selection.{Selection}
 use Rattle.maps.specs.Selected.{families_of, belongs, SelectionOk, selection_of, PatternOk}

@@ -6,7 +6,7 @@ use Prim.Native.Nat.{ℕ}
 use lib.Dec.{eqb}
 use borrow.Author.Tests.{eq-eqb, ne_eqb, eqb-true}
 use Rattle.counting.proofs.Cases.{by_test}
-use Rattle.sheets.specs.Reading.{Reading}
+use Rattle.sheets.specs.Sheet.{Reading}
 use Rattle.sheets.specs.Refusals.{Test, ◌when◌, first_fault, NO_FLAG}
 use Rattle.openings.specs.declared.Refusal.{Refusal}
 use Rattle.openings.specs.Said.{Said, done, refused, afterwards}

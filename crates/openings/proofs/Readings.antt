@@ -2,11 +2,10 @@
 use mathlib.Core.Path.{◌≡◌, sym, ap}
 use native.Mathlib.Omega.{arith}
 use Rattle.std.specs.Prelude.{Ok, Err}
-use Rattle.sheets.specs.Reading.{Reading}
 use Rattle.sheets.specs.Answered.{reading_of}
 use Rattle.sheets.specs.declared.Sheet.{Sheet}
 use Rattle.sheets.specs.declared.refusals.Refused.{Refused}
-use Rattle.sheets.specs.Sheet.{refusal}
+use Rattle.sheets.specs.Sheet.{refusal, Reading}
 use Rattle.sheets.proofs.Answered.{number_some}
 use Rattle.openings.specs.declared.Which.{Which}
 use Rattle.openings.specs.declared.Refusal.TheVariants as refusals

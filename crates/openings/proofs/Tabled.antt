@@ -7,9 +7,8 @@ use Prim.Native.Nat.{ℕ}
 use lib.Dec.{eqb}
 use borrow.Author.Tests.{eq-eqb, eqb-true, eqb-false}
 use Rattle.counting.proofs.Cases.{by_test}
-use Rattle.sheets.specs.Reading.{Reading}
 use Rattle.sheets.specs.Refusals.{one_of, record_numbers, HOLE_OR_OVERLAP, NO_FLAG, HOLE, OVERLAP, Test, first_fault}
-use Rattle.sheets.specs.Sheet.{read_sheet}
+use Rattle.sheets.specs.Sheet.{read_sheet, Reading}
 use Rattle.sheets.proofs.Numbered.{listed, first_listed, RefusedReading, reading_numbered}
 use Rattle.openings.specs.Said.{Said, done}
 use Rattle.openings.specs.Refusals.{ROOM, unless_sheet, unless_fault}

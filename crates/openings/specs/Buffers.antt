@@ -1,6 +1,6 @@
 -- The lengths of the buffers that a call is lent, and what the calls check of them. Assumes nothing: these are definitions.
 use Rattle.std.specs.Prelude.{not, List, [], ◌∷◌, ◌++◌, ℕ, ◌-◌, eqb}
-use Rattle.sheets.specs.Reading.{Reading}
+use Rattle.sheets.specs.Sheet.{Reading}
 use Rattle.sheets.specs.Refusals.{Test, ◌when◌}
 use Rattle.openings.specs.Said.{Said}
 use Rattle.openings.specs.Refusals.{BUFFER, unless_fault}

@@ -4,7 +4,7 @@ use Rattle.counting.specs.Count.{count_below, nth}
 use Rattle.counting.specs.Periodic.{owns}
 use Rattle.families.specs.Forest.{has}
 use Rattle.families.specs.Decoded.{tree_of}
-use Rattle.sheets.specs.Reading.{Reading}
+use Rattle.sheets.specs.Sheet.{Reading}
 use Rattle.sheets.specs.Refusals.{Test, ◌when◌}
 use Rattle.openings.specs.Said.{Said}
 use Rattle.openings.specs.Refusals.{ELEMENT, BEFORE, FAR, WINDOW, unless_sheet, unless_sheets, unless_fault}

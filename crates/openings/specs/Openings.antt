@@ -1,6 +1,6 @@
 -- How the calls open an element, an element of each of two sheets, or two sheets: what is opened, or the first refusal. Assumes nothing: these are definitions.
 use Rattle.std.specs.Prelude.{◌≡◌, Result, Ok, Err, ℕ}
-use Rattle.sheets.specs.Reading.{Reading}
+use Rattle.sheets.specs.Sheet.{Reading}
 use Rattle.sheets.specs.Answered.{reading_of}
 use Rattle.sheets.specs.declared.Sheet.{Sheet}
 use Rattle.maps.specs.Selected.{selection_of}

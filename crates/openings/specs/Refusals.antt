@@ -1,8 +1,7 @@
 -- The refusals of the calls: a sheet's, and 01's numbers from 12 on; and how a call goes on where there is none. Assumes nothing: these are definitions.
 use Rattle.std.specs.Prelude.{cond, List, ℕ, eqb}
-use Rattle.sheets.specs.Reading.{Reading}
-use Rattle.sheets.specs.Answered.{fault_number, fault_flag}
-use Rattle.sheets.specs.Refusals.{Test, first_fault, NO_FLAG}
+use Rattle.sheets.specs.Sheet.{Reading}
+use Rattle.sheets.specs.Refusals.{Test, first_fault, NO_FLAG, fault_number, fault_flag}
 use Rattle.openings.specs.declared.Which.{Which}
 use Rattle.openings.specs.declared.Which.TheVariants.{First, Second}
 use Rattle.openings.specs.declared.Refusal.{Refusal}

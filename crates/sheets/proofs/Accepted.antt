@@ -14,10 +14,9 @@ use Rattle.families.specs.Forest.{Forest, has}
 use Rattle.families.specs.Decoded.{element_of, tree_of, trees_of, selections, LayoutOk}
 use Rattle.families.specs.Flat.{All, total, totals, layout_of}
 use Rattle.families.proofs.Flats.{trees_back, element_span, selections_trees, layout_ok}
-use Rattle.sheets.specs.Reading.{Reading}
 use Rattle.sheets.specs.Refusals.{Read, got, refused}
 use Rattle.sheets.specs.Bytes.{le32}
-use Rattle.sheets.specs.Sheet.{elements_of, refusal, accepted, judged, answer, read_sheet}
+use Rattle.sheets.specs.Sheet.{elements_of, refusal, accepted, judged, answer, read_sheet, Reading}
 use Rattle.sheets.specs.Pattern.{sizes, first_uneven, Tiled}
 use Rattle.sheets.specs.Encode.{ElementRules}
 use Rattle.sheets.proofs.Shapes.{sheet_read}

@@ -6,8 +6,7 @@ use native.Mathlib.Omega.{arith}
 use Rattle.sheets.specs.declared.refusals.Fault.{Fault}
 use Rattle.sheets.specs.declared.refusals.Fault.TheVariants as fault
 use Rattle.sheets.specs.declared.refusals.Refused.{Refused}
-use Rattle.sheets.specs.Refusals.{Read, refused, unless, record_numbers, one_of, NO_FLAG}
-use Rattle.sheets.specs.Answered.{fault_number, fault_flag}
+use Rattle.sheets.specs.Refusals.{Read, refused, unless, record_numbers, one_of, NO_FLAG, fault_number, fault_flag}
 use Rattle.sheets.specs.Steps.{Refuses}
 
 -- no fault has number 0, which says that a sheet is accepted

@@ -21,12 +21,11 @@ use Rattle.families.proofs.Flats.{ElementOk, length_elements, trees_back, layout
 use Rattle.sheets.specs.declared.elements.Progress.{Progress}
 use Rattle.std.specs.Prelude.{Result, Ok, Err}
 use Rattle.sheets.specs.declared.refusals.Refused.{Refused}
-use Rattle.sheets.specs.Reading.{Reading}
-use Rattle.sheets.specs.Answered.{fault_number, reading_of}
-use Rattle.sheets.specs.Refusals.{got, refused, HOLE_OR_OVERLAP}
+use Rattle.sheets.specs.Answered.{reading_of}
+use Rattle.sheets.specs.Refusals.{got, refused, HOLE_OR_OVERLAP, fault_number}
 use Rattle.sheets.specs.Bytes.{le32}
 use Rattle.sheets.specs.Encode.{ElementRules}
-use Rattle.sheets.specs.Sheet.{elements_of, refusal, accepted, judged, answer, read_sheet}
+use Rattle.sheets.specs.Sheet.{elements_of, refusal, accepted, judged, answer, read_sheet, Reading}
 use Rattle.sheets.specs.Pattern.{sizes, first_uneven, flag_of}
 use Rattle.sheets.specs.Uneven.{fault_of, uneven_of}
 use Rattle.sheets.specs.Steps.{ends, start, Progressed, WrittenAll, layout_from, judged_layout}

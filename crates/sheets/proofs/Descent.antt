@@ -10,8 +10,7 @@ use Rattle.sheets.specs.declared.records.Limits.{Limits}
 use Rattle.sheets.specs.declared.trees.Step.{Step}
 use Rattle.std.specs.Prelude.{Ok, Err}
 use Rattle.sheets.specs.declared.refusals.Refused.{Refused}
-use Rattle.sheets.specs.Refusals.{Read, got, refused, unless, and_then}
-use Rattle.sheets.specs.Answered.{fault_number}
+use Rattle.sheets.specs.Refusals.{Read, got, refused, unless, and_then, fault_number}
 use Rattle.sheets.specs.Records.{family_record, fault}
 use Rattle.sheets.specs.Sheet.{within, beside, siblings_from, forest_from}
 use Rattle.sheets.specs.Steps.{Checked, Stepped, Written}

@@ -14,8 +14,7 @@ use Rattle.sheets.specs.declared.trees.Step.{Step}
 use Rattle.sheets.specs.declared.elements.Progress.{Progress}
 use Rattle.std.specs.Prelude.{Result, Ok, Err}
 use Rattle.sheets.specs.declared.refusals.Refused.{Refused}
-use Rattle.sheets.specs.Answered.{fault_number}
-use Rattle.sheets.specs.Refusals.{Read, got, refused, unless, and_then}
+use Rattle.sheets.specs.Refusals.{Read, got, refused, unless, and_then, fault_number}
 use Rattle.sheets.specs.Bytes.{le16}
 use Rattle.sheets.specs.Records.{fault}
 use Rattle.sheets.specs.Sheet.{top, forest_from, elements_from}

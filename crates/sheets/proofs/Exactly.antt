@@ -3,9 +3,8 @@ use mathlib.Core.Path.{◌≡◌, ap, ◌∙◌}
 use mathlib.Core.List.{List}
 use Prim.Native.Nat.{ℕ}
 use Rattle.families.specs.Forest.{Forest}
-use Rattle.sheets.specs.Reading.{Reading}
 use Rattle.sheets.specs.Bytes.{le32, Bytes}
-use Rattle.sheets.specs.Sheet.{accepted, answer, read_sheet}
+use Rattle.sheets.specs.Sheet.{accepted, answer, read_sheet, Reading}
 use Rattle.sheets.specs.Encode.{encode, Rules, Good}
 use Rattle.sheets.specs.Pattern.{Tiled}
 use Rattle.sheets.proofs.There.{rules_read}

@@ -11,12 +11,11 @@ use Rattle.families.specs.Flat.{total}
 use Rattle.counting.proofs.Cases.{by_test}
 use Rattle.families.specs.Forest.{Forest}
 use Rattle.sheets.specs.declared.records.Limits.{Limits}
-use Rattle.sheets.specs.Reading.{Reading}
 use Rattle.sheets.specs.Refusals.{record_numbers, one_of, Test, ◌when◌, first_fault, Read, got, refused, unless, and_then, HOLE_OR_OVERLAP, NO_FLAG, HOLE, OVERLAP}
 use Rattle.sheets.specs.Bytes.{le32}
 use Rattle.sheets.specs.Records.{head_tests, header_tests, element_tests, family_tests, body_tests, fault}
 use Rattle.sheets.specs.Pattern.{sizes, in_elements, first_uneven, flag_of}
-use Rattle.sheets.specs.Sheet.{siblings_from, forest_from, elements_from, elements_of, refusal, accepted, judged, answer, read_sheet}
+use Rattle.sheets.specs.Sheet.{siblings_from, forest_from, elements_from, elements_of, refusal, accepted, judged, answer, read_sheet, Reading}
 
 pub listed_some : (k : ℕ) → one_of k record_numbers ≡ true → 1 ≤ k
 unfolding one_of

@@ -10,8 +10,7 @@ use Rattle.families.specs.Flat.{totals}
 use Rattle.sheets.specs.declared.elements.Progress.{Progress}
 use Rattle.std.specs.Prelude.{Ok, Err}
 use Rattle.sheets.specs.declared.refusals.Refused.{Refused}
-use Rattle.sheets.specs.Answered.{fault_number}
-use Rattle.sheets.specs.Refusals.{Read, got, refused, unless, ◌when◌, first_fault}
+use Rattle.sheets.specs.Refusals.{Read, got, refused, unless, ◌when◌, first_fault, fault_number}
 use Rattle.sheets.specs.Bytes.{le16}
 use Rattle.sheets.specs.Records.{length_of, fault}
 use Rattle.sheets.specs.Sheet.{top, end_of_records, elements_from, elements_of}

@@ -1,5 +1,4 @@
 pub mod Refusals
-pub mod Reading
 pub mod Bytes
 pub mod Records
 pub mod Pattern

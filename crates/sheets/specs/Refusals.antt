@@ -1,5 +1,7 @@
 -- The refusals of a sheet: 01's table, in its order. Assumes nothing: these are definitions.
 use Rattle.std.specs.Prelude.{Bool, false, ◌||◌, cond, List, [], ◌∷◌, ℕ, zero, suc, eqb}
+use Rattle.sheets.specs.declared.refusals.Fault.{Fault}
+use Rattle.sheets.specs.declared.refusals.Fault.TheVariants as fault
 
 abbrev pub SHORT : ℕ
 SHORT = 1
@@ -51,6 +53,35 @@ HOLE = 1
 
 abbrev pub OVERLAP : ℕ
 OVERLAP = 2
+
+-- a fault's number in the table, and the flag that goes with it
+abbrev pub fault_number : Fault → ℕ
+fault_number fault.Short = SHORT
+fault_number fault.Kind = KIND
+fault_number fault.Length = LENGTH
+fault_number fault.Count = COUNT
+fault_number fault.Many = MANY
+fault_number fault.Segment = SEGMENT
+fault_number fault.Span = SPAN
+fault_number fault.Order = ORDER
+fault_number fault.Depth = DEPTH
+fault_number fault.Trailing = TRAILING
+fault_number fault.Hole = HOLE_OR_OVERLAP
+fault_number fault.Overlap = HOLE_OR_OVERLAP
+
+abbrev pub fault_flag : Fault → ℕ
+fault_flag fault.Short = NO_FLAG
+fault_flag fault.Kind = NO_FLAG
+fault_flag fault.Length = NO_FLAG
+fault_flag fault.Count = NO_FLAG
+fault_flag fault.Many = NO_FLAG
+fault_flag fault.Segment = NO_FLAG
+fault_flag fault.Span = NO_FLAG
+fault_flag fault.Order = NO_FLAG
+fault_flag fault.Depth = NO_FLAG
+fault_flag fault.Trailing = NO_FLAG
+fault_flag fault.Hole = HOLE
+fault_flag fault.Overlap = OVERLAP
 
 -- a row of the table: the number, and whether the fault is there
 infix 1 ◌when◌

@@ -2,10 +2,10 @@
 -- refusal; then bytes that follow, then holes and overlaps. Assumes nothing: these are definitions.
 use Rattle.std.specs.Prelude.{cond, List, [], ◌∷◌, ℕ, zero, suc, ◌+◌, ◌-◌, ◌*◌, ltb, length}
 use Rattle.families.specs.declared.Family.{Family}
+use Rattle.families.specs.declared.Layout.{Layout}
 use Rattle.families.specs.Forest.{Forest, nil, node}
 use Rattle.families.specs.Flat.{total, totals, layout_of}
 use Rattle.sheets.specs.declared.records.Limits.{Limits}
-use Rattle.sheets.specs.Reading.{Reading}
 use Rattle.sheets.specs.Refusals.{Read, got, refused, unless, and_then, ◌when◌, first_fault, TRAILING, HOLE_OR_OVERLAP, NO_FLAG}
 use Rattle.sheets.specs.Bytes.{le16, le32}
 use Rattle.sheets.specs.Records.{HEADER_KIND, ELEMENT_KIND, FAMILY_KIND, family_record, last_of, fault}
@@ -54,6 +54,15 @@ elements_of xs =
     unless (fault 4 (top 256) xs HEADER_KIND 0) 0
     (and_then (elements_from xs 256 (le16 xs 8) 10)
     (λ Fs. unless (first_fault ((TRAILING when ltb (end_of_records Fs) (length xs)) ∷ [])) (end_of_records Fs) (got Fs)))
+
+-- What a reader answers to a sheet, in 01's numbers. Number 0 is an accepted one, with its pattern's size and its layout; of a refused one these are 0
+-- and blank
+pub record Reading : Type 0 where
+  pub number : ℕ
+  pub place : ℕ
+  pub flag : ℕ
+  pub size : ℕ
+  pub layout : Layout
 
 -- THE ANSWER: a refused sheet has no layout, and what stands there instead is blank
 unfoldable pub refusal : (number place flag : ℕ) → Reading

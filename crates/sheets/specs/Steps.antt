@@ -9,10 +9,8 @@ use Rattle.families.specs.Flat.{total, flat, totals, flats, elements_at}
 use Rattle.sheets.specs.declared.trees.Step.{Step}
 use Rattle.sheets.specs.declared.elements.Progress.{Progress}
 use Rattle.sheets.specs.declared.refusals.Refused.{Refused}
-use Rattle.sheets.specs.Reading.{Reading}
-use Rattle.sheets.specs.Answered.{fault_number}
-use Rattle.sheets.specs.Refusals.{Read, got, refused, HOLE_OR_OVERLAP, NO_FLAG}
-use Rattle.sheets.specs.Sheet.{refusal}
+use Rattle.sheets.specs.Refusals.{Read, got, refused, HOLE_OR_OVERLAP, NO_FLAG, fault_number}
+use Rattle.sheets.specs.Sheet.{refusal, Reading}
 use Rattle.sheets.specs.Pattern.{sizes, in_elements, first_uneven, flag_of}
 
 -- a refusal in the code's words

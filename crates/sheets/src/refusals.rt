@@ -1,6 +1,6 @@
 // Refusals: why a sheet is refused, and where.
 ghost use Rattle.std.specs.Prelude.{◌≡◌};
-ghost use Rattle.sheets.specs.Answered.{fault_number, fault_flag};
+ghost use Rattle.sheets.specs.Refusals.{fault_number, fault_flag};
 
 use std::error::Error;
 use std::fmt;
