@@ -12,6 +12,9 @@ both-both-requires-clause-one c = (passing_marks c.loop-walk.invariant).0
 pub both-both-requires-clause-two : goal.both-both-requires-clause-two
 both-both-requires-clause-two c = (passing_marks c.loop-walk.invariant).1
 
+pub returns-then-both-wanted : goal.returns-then-both-wanted
+returns-then-both-wanted c = passing_stop c.loop-walk.invariant _ c.both-both.ensures c.if-both-wanted.true
+
 pub next-requires-clause-marked : goal.next-requires-clause-marked
 next-requires-clause-marked c = (passing_marks c.loop-walk.invariant).0
 
@@ -30,9 +33,6 @@ loop-walk-smaller c = omega (arith, c.loop-walk-test.true)
 pub loop-walk-preserved : goal.loop-walk-preserved
 loop-walk-preserved c =
     passing_next c.loop-walk.invariant _ c.both-both.ensures c.if-both-wanted.false c.loop-walk-test.true _ _ c.next.ensures c.next-in-loop-walk.ensures
-
-pub returns-then-both-wanted : goal.returns-then-both-wanted
-returns-then-both-wanted c = passing_stop c.loop-walk.invariant _ c.both-both.ensures c.if-both-wanted.true
 
 pub returns : goal.returns
 returns c = passing_end c.loop-walk.invariant (omega (arith, c.loop-walk-test.false))
