@@ -27,6 +27,8 @@ pub fn add(list: &mut [u64], runs: u64, walk: Walk, len: u64) -> u64
 }
 
 // Lists the runs by two tables of N places, which have room for a period of each selection.
+// not inlined: its walks need the registers, and a large caller leaves them too few
+#[inline(never)]
 pub fn list_by_tables<const N: usize>(
     one: &Subfile,
     two: &Subfile,

@@ -54,6 +54,8 @@ impl<'a> Track<'a> {
     }
 
     // Hands every run to the list, and says how many there are.
+    // inlined, so that the walk which only counts keeps no ranks
+    #[inline(always)]
     pub fn list_runs(&self, list: &mut [u64]) -> u64
         ensures { let p = first_on self.now in let q = second_on self.now in
             filled list.new result ≡ handed (added p q) (filled list.old 0) (shared_runs p q self.now.start.x.0 self.now.end.0) }
@@ -70,6 +72,8 @@ impl<'a> Track<'a> {
     }
 
     // Counts the runs, and only then lists them, where the list holds them all.
+    // inlined, so that what a walk asks of the track stays in registers, and is not read again for every offset
+    #[inline(always)]
     pub fn list_if_held(&self, list: &mut [u64]) -> u64
         ensures { let p = first_on self.now in let q = second_on self.now in
             Listed p q self.now.start.x.0 self.now.end.0 list.old list.new result }
