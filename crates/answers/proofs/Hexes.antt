@@ -1,19 +1,14 @@
 -- Bytes put in hex, one after the other; and a buffer. Assumes nothing.
 use mathlib.Core.Path.{◌≡◌, refl, sym, ap, ◌∙◌}
-use mathlib.Core.Bool.{Bool, true}
-use mathlib.Core.List.{List, [], ◌∷◌, ◌++◌}
-use Prim.Native.Nat.{ℕ, zero, suc, ◌+◌, ◌*◌, ◌/◌, ◌%◌, ◌<◌}
+use mathlib.Core.List.{List, [], ◌∷◌, ◌++◌, append-nil}
+use Prim.Native.Nat.{ℕ, suc, ◌+◌, ◌*◌, ◌/◌, ◌%◌, ◌≤◌, ◌<◌}
+use native.Mathlib.Numerals.{add-one}
 use native.Mathlib.Omega.{arith}
-use Rattle.std.specs.Prelude.{◌&&◌, Result, Ok, Err, IsOk, OnOk}
-use Rattle.std.proofs.Common.{inl, inr}
-use Rattle.std.proofs.lemmas.Bool.{and_parts, cases_lt, eqb-true}
-use lib.Dec.{eqb}
-use lib.ListN.{length, take, get_or}
-use lib.Seq.{paste, length-paste, take-paste, take-length}
+use lib.ListN.{length, take, drop, set, get_or}
+use lib.Seq.{paste, length-paste, take-paste, take-length, take-suc, length-take-le, drop-cons, drop-length}
 use borrow.Rule.Slice.Mut.{set_vals}
 use borrow.Rule.Slice.PartMut.{put_mid}
 use Rattle.std.proofs.lemmas.Slice.{put_mid-paste}
-use Rattle.hex.specs.Hex.{lower_digits, encode_with, encode_lower}
 use Rattle.io.specs.Digits.{hex_digit_ascii}
 use Rattle.answers.specs.Lines.{hex, buffer}
 use Rattle.words.specs.Texts.{word}
@@ -21,29 +16,10 @@ use Rattle.words.specs.Written.{written, HasRoom, Put}
 use Rattle.words.specs.declared.Text.{Text}
 use Rattle.words.proofs.Puts.{put_within}
 
--- the digits are those of the kit's `hex`: a test of the first n, which computes
-abbrev alike : ℕ → Bool
-alike zero = true
-alike (suc n) = eqb (get_or lower_digits n 0) (hex_digit_ascii n) && alike n
-
-alike_at : (n d : ℕ) → alike n ≡ true → d < n → get_or lower_digits d 0 ≡ hex_digit_ascii d
-alike_at zero d h below = absurd (omega arith)
-alike_at (suc n) d h below =
-    let parts = and_parts (eqb (get_or lower_digits n 0) (hex_digit_ascii n)) (alike n) h in
-    elim (cases_lt d n) [
-      | inl under ↦ alike_at n d parts.1 under
-      | inr top ↦
-          let e : d ≡ n = omega arith in
-          rw e (eqb-true _ _ parts.0)
-    ]
-
--- and so is the text of bytes
-pub hex_is : (bytes : List ℕ) → ((i : ℕ) → get_or bytes i 0 < 256) → encode_lower bytes ≡ hex bytes
-unfolding hex encode_with
-hex_is [] B = refl
-hex_is (b ∷ bs) B =
-    let small : b < 256 = B 0 in
-    rw (alike_at 16 (b / 16) refl (omega arith), alike_at 16 (b % 16) refl (omega arith), hex_is bs (λ i. B (suc i))) refl
+hex_append : (xs ys : List ℕ) → hex (xs ++ ys) ≡ hex xs ++ hex ys
+unfolding hex
+hex_append [] ys = refl
+hex_append (x ∷ xs) ys = ap (λ (rest : List ℕ). hex_digit_ascii (x / 16) ∷ hex_digit_ascii (x % 16) ∷ rest) (hex_append xs ys)
 
 hex_length : (bytes : List ℕ) → length (hex bytes) ≡ 2 * length bytes
 unfolding hex
@@ -68,10 +44,55 @@ put_digits bytes t {k} {digits} room long is =
       same_reference = refl;
     }
 
--- what is so where there is a value, of a value
-pub on_ok : {T E P : Type 0} (r : Result T E) → IsOk r → OnOk r P → P
-on_ok (Ok x) h p = p
-on_ok (Err e) h p = absurd cc
+-- two places of a list in a row are set
+two_set : (front : List ℕ) (x y : ℕ) (behind : List ℕ) (a b : ℕ)
+    → set (set (front ++ (x ∷ y ∷ behind)) (length front) a) (length front + 1) b ≡ (front ++ (a ∷ b ∷ [])) ++ behind
+two_set [] x y behind a b = refl
+two_set (z ∷ front) x y behind a b =
+    let more : suc (length front) + 1 ≡ suc (length front + 1) = omega arith in
+    rw more (ap (λ (l : List ℕ). z ∷ l) (two_set front x y behind a b))
+
+-- ---- i bytes are written in hex
+pub record Spelled (bytes before : List ℕ) (i : ℕ) (here : List ℕ) : Type 0 where
+  pub some : i ≤ length bytes
+  pub is : here ≡ hex (take i bytes) ++ drop (2 * i) before
+
+module _ {bytes before : List ℕ} where
+  pub spelled_none : Spelled bytes before 0 before
+  unfolding hex
+  spelled_none = record { some = omega arith; is = refl }
+
+  module _ {i : ℕ} {here : List ℕ} (p : Spelled bytes before i here) (room : length before ≡ 2 * length bytes) where
+    abbrev byte : ℕ
+    byte = get_or bytes i 0
+
+    -- one byte more
+    module _ (h : i < length bytes) where
+      hex_more : hex (take (i + 1) bytes) ≡ hex (take i bytes) ++ (hex_digit_ascii (byte / 16) ∷ hex_digit_ascii (byte % 16) ∷ [])
+      unfolding hex
+      hex_more = rw (add-one, take-suc bytes i 0) (hex_append (take i bytes) (byte ∷ []))
+
+      pub spelled_more : {high low : ℕ} → high ≡ hex_digit_ascii (byte / 16) → low ≡ hex_digit_ascii (byte % 16)
+          → Spelled bytes before (i + 1) (set (set here (2 * i) high) (2 * i + 1) low)
+      spelled_more {high} {low} is_high is_low =
+          let n : length (hex (take i bytes)) ≡ 2 * i = hex_length (take i bytes) ∙ ap (λ (k : ℕ). 2 * k) (length-take-le i bytes p.some) in
+          let two : drop (2 * i) before ≡ get_or before (2 * i) 0 ∷ get_or before (suc (2 * i)) 0 ∷ drop (suc (suc (2 * i))) before =
+          drop-cons before (2 * i) 0 (omega (arith, room)) ∙ ap (λ (l : List ℕ). get_or before (2 * i) 0 ∷ l) (drop-cons before (suc (2 * i)) 0 (omega (arith, room))) in
+          let all : 2 * (i + 1) ≡ suc (suc (2 * i)) = omega arith in
+          record {
+            some = omega arith;
+            is =
+                rw (p.is, two, is_high, is_low, hex_more, all)
+                (rw n at
+                (two_set (hex (take i bytes)) (get_or before (2 * i) 0) (get_or before (suc (2 * i)) 0) (drop (suc (suc (2 * i))) before)
+                (hex_digit_ascii (byte / 16)) (hex_digit_ascii (byte % 16))));
+          }
+
+    pub spelled_all : length bytes ≤ i → here ≡ hex bytes
+    spelled_all h =
+        let e : i ≡ length bytes = omega (arith, p.some) in
+        let none : 2 * length bytes ≡ length before = omega (arith, room) in
+        rw (take-length, none, drop-length, append-nil) at (rw e at p.is)
 
 -- an empty buffer is a dash, and any other its bytes
 module _ {before after : Text} where
