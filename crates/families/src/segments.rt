@@ -64,15 +64,16 @@ impl Family {
     }
 
     // How many bytes below x a family without children selects. Document 000, section 6.1, MAP-AUX_f, line 2, is
-    // (x div s_f)(r_f - l_f + 1) + x mod s_f; a comment says where the page is mended. In the page's steps, so it calls neither `segment_of` nor `place`.
+    // (x div s_f)(r_f - l_f + 1) + x mod s_f; a comment says where the page is mended. In the page's steps, so it calls none of `segment_len`, `segment_of`
+    // and `place`.
     pub(crate) fn leaf_rank(self, x: u32) -> u64
         requires { Stride self.l self.r self.s self.n }
         ensures { result ≡ count_below (leaf_of self) x }
     {
         // x - l_f, which MAP-AUX_S hands on. Mended: where l_f is past x it is 0, and the rank comes to 0
         let past = x.saturating_sub(self.l);
-        // r_f - l_f + 1, in section 6.2 LEN_f
-        let len = self.segment_len();
+        // r_f - l_f + 1, in section 6.2 LEN_f; no sheet has l_f past r_f
+        let len = u64::from(self.r.saturating_sub(self.l)) + 1;
         // the segment number, x div s_f. Mended: with n_f = 1, s_f is 0 and not divided by, and the number is 0
         let segment = u64::from(past.checked_div(self.s).unwrap_or(0));
         // the place in the segment, x mod s_f. Mended: with n_f = 1 it is x
