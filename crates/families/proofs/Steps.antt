@@ -1,5 +1,5 @@
 -- A loop over siblings: the family at an index with its children, and the younger siblings that follow. Assumes nothing.
-use mathlib.Core.Path.{◌≡◌, refl}
+use mathlib.Core.Path.{◌≡◌, refl, ap₂}
 use mathlib.Core.Bool.{true, false}
 use mathlib.Core.List.{List}
 use mathlib.Core.Logic.{⊎_elim}
@@ -9,7 +9,7 @@ use lib.ListN.{length, get_or-eq_default}
 use Rattle.counting.proofs.Cases.{lt_or_le}
 use Rattle.families.specs.declared.Family.{Family}
 use Rattle.families.specs.declared.siblings.Siblings.{Siblings}
-use Rattle.families.specs.Forest.{Forest, nil, node, is_nil, WF, FARTHEST}
+use Rattle.families.specs.Forest.{Forest, nil, node, is_nil, last_byte, WF, FARTHEST}
 use Rattle.families.specs.Decoded.{no_family, family_in, siblings, forest_at, FitsIn}
 use Rattle.families.proofs.Forests.{wf_wider, ruled}
 
@@ -71,6 +71,23 @@ unfolding forest_at siblings
 branch levels look i zero h = absurd (h refl)
 branch zero look i (suc k) h = refl
 branch (suc d) look i (suc k) h = refl
+
+-- a tree that keeps the rules is read the same with more levels
+pub deeper : (levels more : ℕ) (look : ℕ → Family) (i k from bound : ℕ) → levels ≤ more → WF from bound (forest_at levels look i k)
+    → forest_at more look i k ≡ forest_at levels look i k
+unfolding WF forest_at siblings
+deeper zero more look i zero from bound h w = none_left more look i 0 refl
+deeper zero more look i (suc k) from bound h w = absurd (omega (arith, w.0.some))
+deeper (suc d) zero look i k from bound h w = absurd (omega arith)
+deeper (suc d) (suc m) look i zero from bound h w = refl
+deeper (suc d) (suc m) look i (suc k) from bound h w =
+    let f = look i in
+    ap₂ (λ (kids rest : Forest). node f.l f.r f.s f.n kids rest)
+    (deeper d m look (i + 1) f.children 0 (f.r - f.l) (omega arith) w.1)
+    (deeper (suc d) (suc m) look (i + f.span) k (last_byte f.l f.r f.s f.n + 1) bound h w.2)
+
+pub ruled_deeper : (levels more : ℕ) (look : ℕ → Family) (i k bound : ℕ) → levels ≤ more → WF 0 bound (forest_at levels look i k) → WF 0 bound (forest_at more look i k)
+ruled_deeper levels more look i k bound h w = rw (deeper levels more look i k 0 bound h w) w
 
 -- a family that has a segment is in the list
 held : (families : List Family) (at bound : ℕ) → FitsIn bound (family_in families at) → at < length families

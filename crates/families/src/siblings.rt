@@ -155,14 +155,15 @@ impl<'a> Siblings<'a> {
 
 impl Layout {
     ghost use Rattle.std.specs.Prelude.{◌≡◌, ◌<◌};
-    ghost use Rattle.families.specs.Decoded.{tree_of};
-    ghost use Rattle.families.specs.Lent.{forest_of};
+    ghost use Rattle.families.specs.Decoded.{element_of, tree_of};
+    ghost use Rattle.families.specs.Lent.{forest_of, LentAs};
 
     // The families of element e.
     pub fn siblings(&self, e: usize, levels: u32) -> Siblings<'_>
         requires room { e < 16 }
         requires ruled { RulesKept (tree_of levels self.now e) }
-        ensures { forest_of result ≡ tree_of levels self.now e }
+        ensures tree { forest_of result ≡ tree_of levels self.now e }
+        ensures lent { LentAs result self.now.family (element_of self.now e).first (element_of self.now e).tops levels }
     {
         let element = self.element[e];
         Siblings {

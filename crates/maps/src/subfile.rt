@@ -18,11 +18,14 @@ pub struct Subfile<'a> {
 }
 
 impl<'a> Subfile<'a> {
+    ghost use Rattle.families.specs.Lent.{LentAs};
     ghost use Rattle.maps.specs.Lent.{bytes_in};
 
     // What it selects of one period: these families with their children.
     pub fn siblings(&self) -> Siblings<'a>
-        ensures { forest_of result ≡ families_of self.now.selection self.now.families.now }
+        ensures tree { forest_of result ≡ families_of self.now.selection self.now.families.now }
+        ensures lent { let s = self.now.selection in
+            LentAs result self.now.families.now s.first s.tops s.levels }
     {
         let s = self.selection;
         Siblings {

@@ -10,10 +10,10 @@ pub siblings-requires-clause-ruled : goal.siblings-requires-clause-ruled
 siblings-requires-clause-ruled c = going_ruled c.loop-e.invariant c.loop-e-test.true (omega arith)
 
 pub paint-requires-clause-ruled : goal.paint-requires-clause-ruled
-paint-requires-clause-ruled c = going_asks c.loop-e.invariant c.loop-e-test.true _ c.siblings.ensures
+paint-requires-clause-ruled c = going_asks c.loop-e.invariant c.loop-e-test.true _ c.siblings.ensures.tree
 
 pub loop-e-preserved : goal.loop-e-preserved
-loop-e-preserved c = going_next c.loop-e.invariant c.loop-e-test.true _ c.siblings.ensures _ c.paint.ensures
+loop-e-preserved c = going_next c.loop-e.invariant c.loop-e-test.true _ c.siblings.ensures.tree _ c.paint.ensures
 
 pub returns : goal.returns
 returns c = going_end c.loop-e.invariant c.loop-e-test.false

@@ -8,7 +8,7 @@ pub siblings-requires-clause-ruled : goal.siblings-requires-clause-ruled
 siblings-requires-clause-ruled c = element_ruled 4 65535 _ c.requires.ruled _ c.requires.there (omega arith)
 
 pub overflow_cast-selected : goal.overflow_cast-selected
-overflow_cast-selected c = omega (arith, chosen_small _ _ c.requires.ruled c.requires.there _ c.siblings.ensures _ c.size-selected.ensures)
+overflow_cast-selected c = omega (arith, chosen_small _ _ c.requires.ruled c.requires.there _ c.siblings.ensures.tree _ c.size-selected.ensures)
 
 pub returns : goal.returns
-returns c = chosen_is _ _ c.requires.ruled c.requires.there _ c.siblings.ensures _ c.size-selected.ensures _
+returns c = chosen_is _ _ c.requires.ruled c.requires.there _ c.siblings.ensures.tree _ c.size-selected.ensures _

@@ -24,4 +24,4 @@ place_is c = rw (c.from-from.ensures, c.from-period.ensures) refl
 pub returns : goal.returns
 returns c =
     let held = has (families_of c.args.self.now.selection c.args.self.now.families.now) in
-    belongs_by_place c.args.self.now.ok _ (omega arith) _ ((rw c.siblings.ensures at c.selects.ensures) ∙ ap held (place_is c))
+    belongs_by_place c.args.self.now.ok _ (omega arith) _ ((rw c.siblings.ensures.tree at c.selects.ensures) ∙ ap held (place_is c))

@@ -16,7 +16,7 @@ place_is c = rw (c.saturating_sub-past.ensures, c.from-from.ensures, c.from-peri
 part_is : (c : After-rank-part)
     → let s = c.args.self.now.selection in c.rank-part.result ≡ count_below (has (families_of s c.args.self.now.families.now)) ((c.args.x.0 - s.from) % s.period)
 part_is c =
-    (rw c.siblings.ensures at c.rank-part.ensures) ∙ ap (count_below (has (families_of c.args.self.now.selection c.args.self.now.families.now))) (place_is c)
+    (rw c.siblings.ensures.tree at c.rank-part.ensures) ∙ ap (count_below (has (families_of c.args.self.now.selection c.args.self.now.families.now))) (place_is c)
 
 counted : (c : After-rank-part) → c.saturating_sub-past.result / c.from-period.result * c.from-size.result + c.rank-part.result
     ≡ count_below (belongs c.args.self.now.selection c.args.self.now.families.now) c.args.x.0
