@@ -7,7 +7,7 @@ pub paint-requires-clause-some : goal.paint-requires-clause-some
 paint-requires-clause-some c = fill_some c.args.subfile.now.ok c.requires.fits
 
 pub paint-requires-clause-ruled : goal.paint-requires-clause-ruled
-paint-requires-clause-ruled c = rw c.siblings.ensures c.requires.fits.ruled
+paint-requires-clause-ruled c = rw c.siblings.ensures.tree c.requires.fits.ruled
 
 pub returns : goal.returns
-returns c = fill_marks c.args.subfile.now.ok c.requires.fits _ _ refl c.requires.zeros (rw c.siblings.ensures at c.paint.ensures)
+returns c = fill_marks c.args.subfile.now.ok c.requires.fits _ _ refl c.requires.zeros (rw c.siblings.ensures.tree at c.paint.ensures)

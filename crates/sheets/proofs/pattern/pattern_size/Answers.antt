@@ -12,10 +12,10 @@ siblings-requires-clause-ruled c = tree_ruled c.loop-e.invariant (omega arith)
 pub overflow_add-sum : goal.overflow_add-sum
 overflow_add-sum c =
     let S = c.loop-e.invariant in
-    omega (arith, summed_small S, size_small S (omega arith) _ c.siblings.ensures _ c.size-sum.ensures)
+    omega (arith, summed_small S, size_small S (omega arith) _ c.siblings.ensures.tree _ c.size-sum.ensures)
 
 pub loop-e-preserved : goal.loop-e-preserved
-loop-e-preserved c = summed_next c.loop-e.invariant (omega arith) _ c.siblings.ensures _ c.size-sum.ensures
+loop-e-preserved c = summed_next c.loop-e.invariant (omega arith) _ c.siblings.ensures.tree _ c.size-sum.ensures
 
 pub overflow_cast-result : goal.overflow_cast-result
 overflow_cast-result c = omega (arith, summed_small c.loop-e.invariant)
