@@ -26,6 +26,15 @@ module _ (checks more : Said → Said) where
     pub refused_then : (f : Refusal) → Refuses more f → Refuses (λ next. checks (more next)) f
     refused_then f R next = R next ∙ P (more next)
 
+-- ---- one check more, of answers of any types: a refusal stands, and else the verdict is that of the last check
+module _ (A B : Type 0) (checks more : Said → Said) where
+  pub still : (f : Refusal) → Verdict {A = A} checks (Err f) → Verdict {A = B} (λ next. checks (more next)) (Err f)
+  still f R = refused_first checks more f R
+
+  pub after : (given : A) → Verdict checks (Ok given) → (answer : Result B Refusal) → Verdict more answer → Verdict (λ next. checks (more next)) answer
+  after given P (Ok last) Q = passed_both checks more P Q
+  after given P (Err f) R = refused_then checks more P f R
+
 -- checks that say the same have the same verdict
 pub verdict_same : {A : Type 0} (checks more : Said → Said) → ((next : Said) → checks next ≡ more next) → (answer : Result A Refusal) → Verdict checks answer → Verdict more answer
 verdict_same checks more same (Ok given) P = λ next. P next ∙ same next
