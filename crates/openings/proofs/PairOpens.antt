@@ -3,15 +3,25 @@ use mathlib.Core.Path.{◌≡◌, refl, sym, ◌∙◌}
 use mathlib.Core.List.{List, []}
 use Prim.Native.Nat.{ℕ, ◌≤◌}
 use native.Mathlib.Omega.{arith}
+use Rattle.std.specs.Prelude.{Result, Ok, Err}
 use Rattle.sheets.specs.Sheet.{read_sheet, Reading}
+use Rattle.sheets.specs.Answered.{reading_of}
+use Rattle.sheets.specs.declared.Sheet.{Sheet}
+use Rattle.sheets.specs.declared.refusals.Refused.{Refused}
 use Rattle.maps.specs.Selected.{PatternOk}
+use Rattle.openings.specs.declared.Which.TheVariants.{First, Second}
+use Rattle.openings.specs.declared.Refusal.{Refusal}
+use Rattle.openings.specs.declared.Refusal.TheVariants as refusals
 use Rattle.openings.specs.declared.Pair.{Pair}
 use Rattle.openings.specs.declared.Sheets.{Sheets}
+use Rattle.openings.specs.declared.RefusedSheets.TheVariants as refused_sheets
 use Rattle.openings.specs.Said.{Said, done}
-use Rattle.openings.specs.Refusals.{unless_sheets}
+use Rattle.openings.specs.Refusals.{unless_sheet, unless_sheets}
 use Rattle.openings.specs.Offsets.{LIMIT, pair_tests, window_tests, both_from, unless_elements, unless_windows}
-use Rattle.openings.specs.Openings.{Passes, accepted_as, Chosen}
+use Rattle.openings.specs.Openings.{Passes, Verdict, accepted_as, Chosen, OpensSheets}
 use Rattle.openings.proofs.Orders.{sheet_passed, fault_passed, sheet_through, fault_through}
+use Rattle.openings.proofs.Verdicts.{still, after}
+use Rattle.openings.proofs.Readings.{accepted_reads, refused_reads}
 use Rattle.openings.proofs.Faults.{range_known, pair_fine, pair_known}
 use Rattle.openings.proofs.Opens.{accepted_shares, ElementFine, Opened, chosen_known}
 
@@ -24,6 +34,21 @@ sheets_through r1 r2 q =
     let one = sheet_through 1 r1 q in
     let two = sheet_through 2 r2 one.1 in
     (one.0, two.0, two.1)
+
+-- ---- `open_sheets`, by what each sheet was read as: the first is refused, the second is, both are accepted
+module _ (r1 r2 : Reading) where
+  pub first_closed : (f : Refused) → reading_of (Err f) ≡ r1 → (two : Result Sheet Refused) → reading_of two ≡ r2 → OpensSheets r1 r2 (Err (refused_sheets.First f two))
+  first_closed f read1 two read2 = (still Sheet Sheets (unless_sheet 1 r1) (unless_sheet 2 r2) (refusals.Sheet First f) (refused_reads First r1 f read1), (read1, read2))
+
+  module _ (s : Sheet) (read1 : reading_of (Ok s) ≡ r1) where
+    then : (answer : Result Sheet Refusal) → Verdict (unless_sheet 2 r2) answer → Verdict (unless_sheets r1 r2) answer
+    then = after Sheet Sheet (unless_sheet 1 r1) (unless_sheet 2 r2) s (accepted_reads First r1 s read1).0
+
+    pub second_closed : (f : Refused) → reading_of (Err f) ≡ r2 → OpensSheets r1 r2 (Err (refused_sheets.Second s f))
+    second_closed f read2 = (then (Err (refusals.Sheet Second f)) (refused_reads Second r2 f read2), (read1, read2))
+
+    pub both_opened : (t : Sheet) → reading_of (Ok t) ≡ r2 → OpensSheets r1 r2 (Ok (record { one = s; two = t }))
+    both_opened t read2 = (then (Ok t) (accepted_reads Second r2 t read2).0, (read1, read2))
 
 -- ---- what a call knows of two sheets that were opened
 module _ (r1 r2 : Reading) (P : Passes (unless_sheets r1 r2)) where

@@ -8,8 +8,10 @@ use Rattle.openings.specs.declared.Refusal.{Refusal}
 use Rattle.openings.specs.declared.Opening.{Opening}
 use Rattle.openings.specs.declared.Pair.{Pair}
 use Rattle.openings.specs.declared.Sheets.{Sheets}
+use Rattle.openings.specs.declared.RefusedSheets.{RefusedSheets}
+use Rattle.openings.specs.declared.RefusedSheets.TheVariants as refused_sheets
 use Rattle.openings.specs.Said.{Said}
-use Rattle.openings.specs.Refusals.{refusal_says, unless_sheet, unless_sheets}
+use Rattle.openings.specs.Refusals.{refusal_says, blamed, unless_sheet, unless_sheets}
 use Rattle.openings.specs.Offsets.{unless_windows}
 
 -- A CALL'S CHECKS pass: it says what it would say next; or they refuse with f: whatever it would say next, it says that
@@ -48,7 +50,16 @@ abbrev pub OpensPair : (r1 r2 : Reading) → (i j a b : ℕ) → Result Pair Ref
 OpensPair r1 r2 i j a b (Ok o) = Passes (unless_windows r1 r2 i j a b) × (Chosen r1 i o.one × Chosen r2 j o.two)
 OpensPair r1 r2 i j a b (Err f) = Refuses (unless_windows r1 r2 i j a b) f
 
--- TWO SHEETS
-abbrev pub OpensSheets : (r1 r2 : Reading) → Result Sheets Refusal → Type 0
+-- what each of two sheets that are not both accepted was read as
+abbrev pub first_read : RefusedSheets → Reading
+first_read (refused_sheets.First f two) = reading_of (Err f)
+first_read (refused_sheets.Second one f) = reading_of (Ok one)
+
+abbrev pub second_read : RefusedSheets → Reading
+second_read (refused_sheets.First f two) = reading_of two
+second_read (refused_sheets.Second one f) = reading_of (Err f)
+
+-- TWO SHEETS, with the readings of both whatever the verdict
+abbrev pub OpensSheets : (r1 r2 : Reading) → Result Sheets RefusedSheets → Type 0
 OpensSheets r1 r2 (Ok o) = Passes (unless_sheets r1 r2) × ((accepted_as o.one ≡ r1) × (accepted_as o.two ≡ r2))
-OpensSheets r1 r2 (Err f) = Refuses (unless_sheets r1 r2) f
+OpensSheets r1 r2 (Err o) = Refuses (unless_sheets r1 r2) (blamed o) × ((first_read o ≡ r1) × (second_read o ≡ r2))

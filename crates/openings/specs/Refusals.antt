@@ -6,6 +6,8 @@ use Rattle.openings.specs.declared.Which.{Which}
 use Rattle.openings.specs.declared.Which.TheVariants.{First, Second}
 use Rattle.openings.specs.declared.Refusal.{Refusal}
 use Rattle.openings.specs.declared.Refusal.TheVariants.{Sheet, Element, Before, Far, Window, Foreign, Buffer, Room}
+use Rattle.openings.specs.declared.RefusedSheets.{RefusedSheets}
+use Rattle.openings.specs.declared.RefusedSheets.TheVariants as refused_sheets
 use Rattle.openings.specs.Said.{Said, refused}
 
 abbrev pub ELEMENT : ℕ
@@ -54,6 +56,11 @@ told Window = call_told WINDOW 0
 told Foreign = call_told FOREIGN 0
 told Buffer = call_told BUFFER 0
 told (Room n) = call_told ROOM n
+
+-- two sheets that are not both accepted: the first that is refused is blamed
+abbrev pub blamed : RefusedSheets → Refusal
+blamed (refused_sheets.First f two) = Sheet First f
+blamed (refused_sheets.Second one f) = Sheet Second f
 
 abbrev pub refusal_says : Refusal → Said
 refusal_says f = let t = told f in refused t.number t.sheet t.place t.flag

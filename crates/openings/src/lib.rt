@@ -71,3 +71,17 @@ pub struct Sheets {
     pub one: Sheet,
     pub two: Sheet,
 }
+
+// Two sheets that are not both accepted, by the first that is refused, with what the other was read as. No struct of two answers: it would be twice as
+// large, and a `?` on it clears as much, also where both are accepted.
+#[derive(Clone, Copy)]
+pub enum RefusedSheets {
+    First {
+        refused: Refused,
+        two: Result<Sheet, Refused>,
+    },
+    Second {
+        one: Sheet,
+        refused: Refused,
+    },
+}

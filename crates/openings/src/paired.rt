@@ -6,16 +6,22 @@ ghost use Rattle.openings.specs.Offsets.{pair_tests, both_from};
 ghost use Rattle.openings.specs.Buffers.{unless_trays};
 ghost use Rattle.openings.specs.Openings.{accepted_as, OpensPair, OpensSheets, Verdict};
 
-use crate::{Pair, Refusal, Sheets, Which, opened, ranges, reading};
+use crate::{Pair, Refusal, RefusedSheets, Sheets, opened, ranges};
 use families::FileOffset;
 
-// Opens two sheets.
-pub fn open_sheets(sheet1: &[u8], sheet2: &[u8]) -> Result<Sheets, Refusal>
+// Opens two sheets. Both are read, also where the first is refused: what was read of each is the caller's in any case.
+pub fn open_sheets(sheet1: &[u8], sheet2: &[u8]) -> Result<Sheets, RefusedSheets>
     ensures { OpensSheets (read_sheet sheet1.now) (read_sheet sheet2.now) result }
 {
-    let one = reading::read(Which::First, sheet1)?;
-    let two = reading::read(Which::Second, sheet2)?;
-    Ok(Sheets { one, two })
+    let one = sheets::read(sheet1);
+    let two = sheets::read(sheet2);
+    match one {
+        Ok(one) => match two {
+            Ok(two) => Ok(Sheets { one, two }),
+            Err(refused) => Err(RefusedSheets::Second { one, refused }),
+        },
+        Err(refused) => Err(RefusedSheets::First { refused, two }),
+    }
 }
 
 impl Sheets {

@@ -1,8 +1,8 @@
 // What a refusal tells: its number in 01's table, the sheet at fault (1 or 2, and 0 where it is none), the place, and the flag of number 11.
 ghost use Rattle.std.specs.Prelude.{◌≡◌};
-ghost use Rattle.openings.specs.Refusals.{sheet_number, told};
+ghost use Rattle.openings.specs.Refusals.{sheet_number, told, blamed};
 
-use crate::{Refusal, Which};
+use crate::{Refusal, RefusedSheets, Which};
 use std::error::Error;
 use std::fmt;
 
@@ -64,6 +64,18 @@ impl Refusal {
     }
 }
 
+// What a call on two sheets says of refused ones. By hand, so that the law says which refusal a `?` hands on.
+impl From<RefusedSheets> for Refusal {
+    ghost from_gives = { λ both f. f ≡ blamed both };
+
+    fn from(both: RefusedSheets) -> Refusal {
+        match both {
+            RefusedSheets::First { refused, .. } => Refusal::Sheet(Which::First, refused),
+            RefusedSheets::Second { refused, .. } => Refusal::Sheet(Which::Second, refused),
+        }
+    }
+}
+
 impl fmt::Display for Which {
     fn fmt<W: fmt::Write>(&self, f: &mut fmt::Formatter<W>) -> fmt::Result {
         f.write_str(match self {
@@ -89,3 +101,18 @@ impl fmt::Display for Refusal {
 }
 
 impl Error for Refusal {}
+
+// By hand, since a layout has no Debug.
+impl fmt::Debug for RefusedSheets {
+    fn fmt<W: fmt::Write>(&self, f: &mut fmt::Formatter<W>) -> fmt::Result {
+        fmt::Debug::fmt(&Refusal::from(*self), f)
+    }
+}
+
+impl fmt::Display for RefusedSheets {
+    fn fmt<W: fmt::Write>(&self, f: &mut fmt::Formatter<W>) -> fmt::Result {
+        fmt::Display::fmt(&Refusal::from(*self), f)
+    }
+}
+
+impl Error for RefusedSheets {}

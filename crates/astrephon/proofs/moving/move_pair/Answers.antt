@@ -9,7 +9,7 @@ use Rattle.astrephon.proofs.moving.move_pair.Goals as goal
 
 pub returns-in_err-both-clause-leaves : goal.returns-in_err-both-clause-leaves
 unfolding pair_move_of
-returns-in_err-both-clause-leaves c = sym (left_held c.args.tray2.now _ (c.in_err-both.ensures _))
+returns-in_err-both-clause-leaves c = sym (left_held c.args.tray2.now _ (c.in_err-both.ensures.0 _))
 
 pub returns-in_err-check_pair-clause-leaves : goal.returns-in_err-check_pair-clause-leaves
 returns-in_err-check_pair-clause-leaves c = let e = c.in_err-check_pair in pair_absent _ _ c.in_ok-both.ensures _ _ _ _ _ _ e.field-0.0 e.ensures

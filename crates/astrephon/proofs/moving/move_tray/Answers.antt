@@ -7,7 +7,7 @@ use Rattle.astrephon.proofs.moving.move_tray.Goals as goal
 
 pub returns-in_err-both-clause-leaves : goal.returns-in_err-both-clause-leaves
 unfolding move_of
-returns-in_err-both-clause-leaves c = sym (left_held c.args.tray2.now _ (c.in_err-both.ensures _))
+returns-in_err-both-clause-leaves c = sym (left_held c.args.tray2.now _ (c.in_err-both.ensures.0 _))
 
 pub returns-in_err-check_trays-clause-leaves : goal.returns-in_err-check_trays-clause-leaves
 returns-in_err-check_trays-clause-leaves c = let e = c.in_err-check_trays in moved_refused _ _ c.in_ok-both.ensures _ _ _ _ e.field-0.0 e.ensures
