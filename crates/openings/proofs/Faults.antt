@@ -1,18 +1,21 @@
 -- What refuses an index, an offset, an interval, a window or a buffer, and what is known where nothing does. Assumes nothing.
-use mathlib.Core.Path.{◌≡◌, refl}
+use mathlib.Core.Path.{◌≡◌, refl, sym, ◌∙◌}
 use mathlib.Core.List.{[], ◌∷◌}
+use mathlib.Core.Logic.{⊎_elim}
 use Prim.Native.Nat.{ℕ, ◌-◌, ◌≤◌, ◌<◌}
 use native.Mathlib.Omega.{arith}
 use borrow.Author.Tests.{eq-eqb, ne_eqb, eqb-true, not-false, lt-ltb, le-ltb, le-leb, lt-leb, ltb-false, leb-false}
+use Rattle.counting.proofs.Cases.{lt_or_le}
 use Rattle.sheets.specs.Refusals.{first_fault}
 use Rattle.sheets.proofs.Faults.{no_fault}
+use Rattle.openings.specs.declared.Refusal.{Refusal}
 use Rattle.openings.specs.declared.Refusal.TheVariants.{Element, Before, Far, Window, Buffer}
-use Rattle.openings.specs.Said.{Said}
+use Rattle.openings.specs.Said.{Said, done}
 use Rattle.openings.specs.Refusals.{ELEMENT, BEFORE, FAR, WINDOW, BUFFER, unless_fault}
 use Rattle.openings.specs.Offsets.{LIMIT, element_test, pair_tests, offset_tests, range_tests}
 use Rattle.openings.specs.Buffers.{buffer_tests, tray_tests}
 use Rattle.openings.specs.Openings.{Passes, Refuses}
-use Rattle.openings.proofs.Orders.{fault_passed}
+use Rattle.openings.proofs.Orders.{fault_passed, never_both}
 use Rattle.openings.proofs.Verdicts.{passes_none}
 
 module _ (from x : ℕ) where
@@ -37,6 +40,17 @@ module _ (from x : ℕ) where
       let before = no_fault BEFORE _ _ (omega arith) e in
       let far = no_fault FAR _ _ (omega arith) before.1 in
       (ltb-false x from before.0, omega (arith, leb-false LIMIT x far.0))
+
+-- what an earlier displacement refuses, d refuses too, by the same refusal
+pub offset_earlier : (from d x : ℕ) (f : Refusal) → Refuses (unless_fault (offset_tests from x)) f → from ≤ d → d ≤ LIMIT → Refuses (unless_fault (offset_tests d x)) f
+offset_earlier from d x f R le near next =
+    ⊎_elim
+    (λ h. R next ∙ sym (offset_before from x h next) ∙ offset_before d x (omega arith) next)
+    (λ h. ⊎_elim
+    (λ l. absurd (never_both (R (done []) ∙ sym (offset_within from x h l (done [])))))
+    (λ l. R next ∙ sym (offset_far from x h l next) ∙ offset_far d x (omega arith) l next)
+    (lt_or_le x LIMIT))
+    (lt_or_le x from)
 
 module _ (most from a b : ℕ) where
   pub range_back : b < a → Refuses (unless_fault (range_tests most from a b)) Window
