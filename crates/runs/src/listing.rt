@@ -67,6 +67,8 @@ pub fn list_by_tables<const N: usize>(
 }
 
 // Lists the runs that two selections share in a window, four slots a run, where the list holds them all; says how many there are.
+// not inlined: what the selections are lent from would be copied once more, 6 KB each
+#[inline(never)]
 pub fn list_shared(one: &Subfile, two: &Subfile, window: Window, list: &mut [u64]) -> u64
     requires one { SideOk one.now.selection one.now.families.now 65536 window.start.0 }
     requires two { SideOk two.now.selection two.now.families.now 65536 window.start.0 }
