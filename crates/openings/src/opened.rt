@@ -60,7 +60,8 @@ pub fn open_window(
 }
 
 // Opens an element for a window and two buffers, by their lengths: one of the window, and one of the element's bytes in it.
-// It checks the window itself: an opening is 6 KB, and each Result that hands it on clears as much and copies it.
+// It checks the window itself, and hands on what was opened as it is, inlined: an opening is 6 KB, and each Result that it is put into is cleared and copied.
+#[inline(always)]
 pub fn open_buffers(
     sheet: &[u8],
     element: u64,
@@ -72,11 +73,13 @@ pub fn open_buffers(
     ensures { let reading = read_sheet sheet.now in
         Opens (unless_buffers reading element a.0 b.0 file packed) reading element result }
 {
-    let opening = open_element(sheet, element)?;
-    ranges::check_range(crate::LIMIT, opening.selection.from, a, b)?;
-    let selected = opening.count(a, b);
-    ranges::check_buffers(file as u64, b.0 - a.0, packed as u64, selected)?;
-    Ok(opening)
+    let opened = open_element(sheet, element);
+    if let Ok(opening) = &opened {
+        ranges::check_range(crate::LIMIT, opening.selection.from, a, b)?;
+        let selected = opening.count(a, b);
+        ranges::check_buffers(file as u64, b.0 - a.0, packed as u64, selected)?;
+    }
+    opened
 }
 
 impl Opening {
