@@ -33,6 +33,8 @@ pub fn gather_runs(track: &Track, window: Window, file: &[u8], packed: &mut [u8]
 }
 
 // Packs the selected bytes of a window by a table of N places, which has one for each of a period.
+// not inlined: the stack has room for the tables of one call, and a caller that makes several would hold those of each
+#[inline(never)]
 pub fn gather_by_table<const N: usize>(
     subfile: &Subfile,
     window: Window,
@@ -55,8 +57,6 @@ pub fn gather_by_table<const N: usize>(
 }
 
 // Packs the selected bytes of a window. An empty one has none.
-// Not inlined: the stack has room for the tables of one call, and a caller that makes several would hold those of each.
-#[inline(never)]
 pub fn gather(subfile: &Subfile, window: Window, file: &[u8], packed: &mut [u8])
     requires side { SideOk subfile.now.selection subfile.now.families.now 65536 window.start.0 }
     requires buffers { Buffers (bytes_in subfile.now) window (length file.now) (length packed.old) }

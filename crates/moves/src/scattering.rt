@@ -31,6 +31,8 @@ pub fn scatter_runs(track: &Track, window: Window, packed: &[u8], file: &mut [u8
 }
 
 // Puts packed bytes back to a window by a table of N places, which has one for each of a period.
+// not inlined: the stack has room for the tables of one call, and a caller that makes several would hold those of each
+#[inline(never)]
 pub fn scatter_by_table<const N: usize>(
     subfile: &Subfile,
     window: Window,
@@ -53,8 +55,6 @@ pub fn scatter_by_table<const N: usize>(
 }
 
 // Puts packed bytes back to a window. An empty one has none.
-// Not inlined: the stack has room for the tables of one call, and a caller that makes several would hold those of each.
-#[inline(never)]
 pub fn scatter(subfile: &Subfile, window: Window, packed: &[u8], file: &mut [u8])
     requires side { SideOk subfile.now.selection subfile.now.families.now 65536 window.start.0 }
     requires buffers { Buffers (bytes_in subfile.now) window (length file.old) (length packed.now) }
